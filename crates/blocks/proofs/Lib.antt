@@ -1,0 +1,4 @@
+pub mod Xor
+pub mod ByBits
+pub mod Numbers
+pub mod Parts

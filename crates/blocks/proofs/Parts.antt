@@ -1,0 +1,133 @@
+-- Parts written one behind the other, and loops that write an element a turn. Assumes nothing.
+use mathlib.Core.Path.{_≡_, refl, ap, sym, _∙_}
+use mathlib.Core.List.{List, [], _∷_, _++_, append-assoc, append-nil}
+use Prim.Native.Nat.{ℕ, zero, suc, _+_, _≤_, _<_}
+use native.Mathlib.Nat.{zero-add, add-zero, add-assoc}
+use native.Mathlib.Numerals.{add-one}
+use native.Mathlib.Omega.{arith}
+use lib.ListN.{length, getD, take, drop, set, length-append, length-drop, take-append-drop}
+use lib.Seq.{length-take-le, take-at, drop-at, drop-drop, drop-append-add, drop-cons, set-at, drop-length, getD-drop, take-suc, take-length, ext-getD}
+use Rattle.blocks.specs.Put.{put, tab, part}
+
+pub tab-length : (n : ℕ) (f : ℕ → ℕ) → length (tab n f) ≡ n
+unfolding tab
+tab-length zero f = refl
+tab-length (suc n) f = length-append (tab n f) (f n ∷ []) ∙ ap (λ (k : ℕ). k + 1) (tab-length n f) ∙ add-one n
+
+pub tab-zero : (f : ℕ → ℕ) → tab 0 f ≡ []
+unfolding tab
+tab-zero f = refl
+
+pub tab-more : (n : ℕ) (f : ℕ → ℕ) → tab (n + 1) f ≡ tab n f ++ (f n ∷ [])
+unfolding tab
+tab-more n f = rw add-one
+
+-- nothing is written
+pub put-none : (at : ℕ) (o : List ℕ) → put at [] o ≡ o
+unfolding put
+put-none at o = rw (add-zero, take-append-drop)
+
+-- from the start
+pub put-start : (xs o : List ℕ) → put 0 xs o ≡ xs ++ drop (length xs) o
+unfolding put
+put-start xs o = rw zero-add
+
+pub put-length : (at : ℕ) (xs o : List ℕ) → at + length xs ≤ length o → length (put at xs o) ≡ length o
+unfolding put
+put-length at xs o h =
+    simp (length-append, length-drop, length-take-le at o (omega arith)) (omega arith)
+
+-- what was written, with what stands before it, and the rest
+cut : (at : ℕ) (xs o : List ℕ) → put at xs o ≡ (take at o ++ xs) ++ drop (at + length xs) o
+unfolding put
+cut at xs o = sym (append-assoc (take at o) xs (drop (at + length xs) o))
+
+cut-length : (at : ℕ) (xs o : List ℕ) → at ≤ length o → length (take at o ++ xs) ≡ at + length xs
+cut-length at xs o h = simp (length-append, length-take-le at o h)
+
+-- a write right behind another one
+pub put-put : (at : ℕ) (xs ys o : List ℕ) (n : ℕ) → n ≡ at + length xs → at + length xs ≤ length o → put n ys (put at xs o) ≡ put at (xs ++ ys) o
+unfolding put
+put-put at xs ys o n e h =
+    let p : List ℕ = take at o ++ xs in
+    let l : length p ≡ n = cut-length at xs o (omega arith) ∙ sym e in
+    ap (λ (z : List ℕ). take n z ++ (ys ++ drop (n + length ys) z)) (cut at xs o)
+    ∙ ap (λ (z : List ℕ). z ++ (ys ++ drop (n + length ys) (p ++ drop (at + length xs) o))) (take-at p (drop (at + length xs) o) n l)
+    ∙ ap (λ (k : ℕ). p ++ (ys ++ drop (k + length ys) (p ++ drop (at + length xs) o))) (sym l)
+    ∙ ap (λ (z : List ℕ). p ++ (ys ++ z)) (drop-append-add p (drop (at + length xs) o) (length ys) ∙ drop-drop (length ys) (at + length xs) o)
+    ∙ append-assoc (take at o) xs (ys ++ drop (at + length xs + length ys) o)
+    ∙ ap (λ (z : List ℕ). take at o ++ z) (sym (append-assoc xs ys (drop (at + length xs + length ys) o)))
+    ∙ ap (λ (k : ℕ). take at o ++ ((xs ++ ys) ++ drop k o)) (add-assoc at (length xs) (length ys) ∙ ap (λ (k : ℕ). at + k) (sym (length-append xs ys)))
+
+-- a store right behind a write
+pub put-set : (at : ℕ) (xs o : List ℕ) (v n : ℕ) → n ≡ at + length xs → n < length o → set (put at xs o) n v ≡ put at (xs ++ (v ∷ [])) o
+unfolding put
+put-set at xs o v n e h =
+    let p : List ℕ = take at o ++ xs in
+    let l : length p ≡ n = cut-length at xs o (omega arith) ∙ sym e in
+    let j : suc (at + length xs) ≡ at + length (xs ++ (v ∷ [])) = omega (arith, length-append xs (v ∷ [])) in
+    ap (λ (z : List ℕ). set z n v) (cut at xs o ∙ ap (λ (z : List ℕ). p ++ z) (drop-cons o (at + length xs) 0 (omega arith)))
+    ∙ set-at p (getD o (at + length xs) 0) (drop (suc (at + length xs)) o) v n l
+    ∙ append-assoc (take at o) xs (v ∷ drop (suc (at + length xs)) o)
+    ∙ ap (λ (z : List ℕ). take at o ++ z) (sym (append-assoc xs (v ∷ []) (drop (suc (at + length xs)) o)))
+    ∙ ap (λ (k : ℕ). take at o ++ ((xs ++ (v ∷ [])) ++ drop k o)) j
+
+-- a loop that writes f 0, f 1, .. from at: before the first turn, the length, and a turn
+pub fill-none : (at : ℕ) (f : ℕ → ℕ) (o : List ℕ) → o ≡ put at (tab 0 f) o
+fill-none at f o = sym (ap (λ (xs : List ℕ). put at xs o) (tab-zero f) ∙ put-none at o)
+
+pub fill-length : (at i : ℕ) (f : ℕ → ℕ) (o out : List ℕ) → out ≡ put at (tab i f) o → at + i ≤ length o → length out ≡ length o
+fill-length at i f o out e h = ap length e ∙ put-length at (tab i f) o (omega (arith, tab-length i f))
+
+pub fill-more : (at i v : ℕ) (f : ℕ → ℕ) (o out : List ℕ) → out ≡ put at (tab i f) o → at + i < length o → v ≡ f i → set out (at + i) v ≡ put at (tab (i + 1) f) o
+fill-more at i v f o out e h d =
+    ap (λ (z : List ℕ). set z (at + i) v) e
+    ∙ put-set at (tab i f) o v (at + i) (ap (λ (k : ℕ). at + k) (sym (tab-length i f))) h
+    ∙ ap (λ (w : ℕ). put at (tab i f ++ (w ∷ [])) o) d
+    ∙ ap (λ (xs : List ℕ). put at xs o) (sym (tab-more i f))
+
+-- four stores in a row
+pub put-four : (at a b c d : ℕ) (o : List ℕ) → at + 4 ≤ length o
+    → set (set (set (set o at a) (at + 1) b) (at + 2) c) (at + 3) d ≡ put at (a ∷ b ∷ c ∷ d ∷ []) o
+put-four at a b c d o h =
+    ap (λ (z : List ℕ). set (set (set (set z at a) (at + 1) b) (at + 2) c) (at + 3) d) (sym (put-none at o))
+    ∙ ap (λ (z : List ℕ). set (set (set z (at + 1) b) (at + 2) c) (at + 3) d) (put-set at [] o a at (sym (add-zero at)) (omega arith))
+    ∙ ap (λ (z : List ℕ). set (set z (at + 2) c) (at + 3) d) (put-set at (a ∷ []) o b (at + 1) refl (omega arith))
+    ∙ ap (λ (z : List ℕ). set z (at + 3) d) (put-set at (a ∷ b ∷ []) o c (at + 2) refl (omega arith))
+    ∙ put-set at (a ∷ b ∷ c ∷ []) o d (at + 3) refl (omega arith)
+
+pub fill-done : (at i n : ℕ) (f : ℕ → ℕ) (o out : List ℕ) → out ≡ put at (tab i f) o → i ≡ n → out ≡ put at (tab n f) o
+fill-done at i n f o out e d = e ∙ ap (λ (k : ℕ). put at (tab k f) o) d
+
+-- the whole list written over
+pub put-whole : (xs o : List ℕ) → length xs ≡ length o → put 0 xs o ≡ xs
+put-whole xs o e = put-start xs o ∙ ap (λ (k : ℕ). xs ++ drop k o) e ∙ ap (λ (z : List ℕ). xs ++ z) (drop-length o) ∙ append-nil xs
+
+-- a loop that writes a whole list from its start
+pub all-none : (f : ℕ → ℕ) (o : List ℕ) → o ≡ put 0 (tab 0 f) o
+all-none = fill-none 0
+
+pub all-length : (i : ℕ) (f : ℕ → ℕ) (o out : List ℕ) → out ≡ put 0 (tab i f) o → i ≤ length o → length out ≡ length o
+all-length i f o out e h = fill-length 0 i f o out e (omega arith)
+
+pub all-more : (i v : ℕ) (f : ℕ → ℕ) (o out : List ℕ) → out ≡ put 0 (tab i f) o → i < length o → v ≡ f i → set out i v ≡ put 0 (tab (i + 1) f) o
+all-more i v f o out e h d = ap (λ (n : ℕ). set out n v) (sym (zero-add i)) ∙ fill-more 0 i v f o out e (omega arith) d
+
+pub all-done : (i n : ℕ) (f : ℕ → ℕ) (o out : List ℕ) → out ≡ put 0 (tab i f) o → i ≡ n → length o ≡ n → out ≡ tab n f
+all-done i n f o out e d l = fill-done 0 i n f o out e d ∙ put-whole (tab n f) o (tab-length n f ∙ sym l)
+
+-- the elements of a part, by their places
+pub tab-part : (n at : ℕ) (s : List ℕ) → at + n ≤ length s → tab n (λ i. getD s (at + i) 0) ≡ take n (drop at s)
+unfolding tab
+tab-part zero at s h = refl
+tab-part (suc n) at s h =
+    ap (λ (z : List ℕ). z ++ (getD s (at + n) 0 ∷ [])) (tab-part n at s (omega arith))
+    ∙ ap (λ (v : ℕ). take n (drop at s) ++ (v ∷ [])) (sym (getD-drop at s n 0))
+    ∙ sym (take-suc (drop at s) n 0 (omega (arith, length-drop at s)))
+
+-- the elements of a whole list, by their places
+pub tab-list : (s : List ℕ) → tab (length s) (λ i. getD s i 0) ≡ s
+tab-list s = ap (tab (length s)) (λ j i. getD s (sym (zero-add i) j) 0) ∙ tab-part (length s) 0 s (omega arith) ∙ take-length s
+
+pub put-one : (at b : ℕ) (o : List ℕ) → at < length o → set o at b ≡ put at (b ∷ []) o
+put-one at b o h = ap (λ (z : List ℕ). set z at b) (sym (put-none at o)) ∙ put-set at [] o b at (sym (add-zero at)) h

@@ -1,0 +1,1 @@
+// Bytes, blocks and big-endian numbers as definitions: specs/.
