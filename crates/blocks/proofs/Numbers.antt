@@ -1,13 +1,15 @@
 -- A number and its bytes say each other, at any width. Assumes nothing.
 use mathlib.Core.Path.{_≡_, refl, sym, ap, ap₂, _∙_}
 use mathlib.Core.List.{List, [], _∷_}
-use Prim.Native.Nat.{ℕ, zero, suc, _+_, _*_, _/_, _%_, _^_, _<_}
-use native.Mathlib.Nat.{mod-lt, mod-eq-of-lt, pow-succ', mul-assoc, add-comm, add-mul-div-right, one-le-pow}
+use Prim.Native.Nat.{ℕ, zero, suc, _+_, _*_, _/_, _%_, _^_, _≤_, _<_}
+use native.Mathlib.Nat.{mod-lt, mod-eq-of-lt, pow-succ', mul-assoc, add-comm, add-mul-div-right, one-le-pow, div-one, add-zero}
 use native.Mathlib.Omega.{arith}
 use lib.ListN.{length, getD}
 use lib.Arith.{digits-div, digits-lt, mod-mul}
 use Rattle.blocks.specs.Bytes.{Bytes}
 use Rattle.blocks.specs.Number.{bigEndian, value}
+use Rattle.blocks.specs.Put.{part, tab}
+use Rattle.blocks.proofs.Parts.{tab-part}
 
 pub bigEndian-length : (w x : ℕ) → length (bigEndian w x) ≡ w
 unfolding bigEndian
@@ -63,3 +65,16 @@ bigEndian-value (x ∷ s) b =
     ap₂ (λ (n : ℕ) (l : List ℕ). n ∷ l)
     (ap (λ (n : ℕ). n % 256) (digits-div x (value-lt s (λ i. b (suc i)))) ∙ mod-eq-of-lt small)
     (ap (bigEndian (length s)) (add-comm (x * 256 ^ length s) (value s)) ∙ bigEndian-low (length s) x (value s) ∙ bigEndian-value s (λ i. b (suc i)))
+
+-- ---- four bytes
+
+pub value-four : (s : List ℕ) (at : ℕ) → at + 4 ≤ length s
+    → getD s at 0 * 16777216 + getD s (at + 1) 0 * 65536 + getD s (at + 2) 0 * 256 + getD s (at + 3) 0 ≡ value (part at 4 s)
+unfolding value tab
+value-four s at h =
+    let e : getD s at 0 ≡ getD s (at + 0) 0 = ap (λ (n : ℕ). getD s n 0) (sym (add-zero at)) in
+    rw (← tab-part 4 at s h) (omega arith)
+
+pub bigEndian-four : (x : ℕ) → x / 16777216 % 256 ∷ x / 65536 % 256 ∷ x / 256 % 256 ∷ x % 256 ∷ [] ≡ bigEndian 4 x
+unfolding bigEndian
+bigEndian-four x = ap (λ (n : ℕ). x / 16777216 % 256 ∷ x / 65536 % 256 ∷ x / 256 % 256 ∷ n % 256 ∷ []) (sym (div-one x))

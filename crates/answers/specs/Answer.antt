@@ -1,0 +1,35 @@
+-- What an entry answers: it does its work and returns values, or refuses under a number. Assumes nothing.
+use mathlib.Core.Bool.{Bool, not, cond}
+use mathlib.Core.List.{List, [], _∷_}
+use Prim.Native.Nat.{ℕ}
+use lib.Dec.{T}
+use Rattle.blocks.specs.Put.{put}
+
+pub data Answer : Type 0 where
+  done : List ℕ → Answer
+  refused : ℕ → Answer
+
+-- a refusal's number and whether its cause applies
+infix 20 _when_
+pub data Cause : Type 0 where
+  _when_ : ℕ → Bool → Cause
+
+-- the first refusal that applies, or else the answer a
+abbrev pub first : List Cause → Answer → Answer
+first [] a = a
+first ((n when b) ∷ cs) a = cond b (refused n) (first cs a)
+
+-- the number of an answer: 0 or the refusal's
+abbrev pub numberOf : Answer → ℕ
+numberOf (done vs) = 0
+numberOf (refused n) = n
+
+-- done: xs written over o from its start, what lies past it untouched; refused: o as it came
+abbrev pub output : Answer → List ℕ → List ℕ → List ℕ
+output (done vs) xs o = put 0 xs o
+output (refused n) xs o = o
+
+-- n is the number of the first cause that applies
+pub data FirstOf (n : ℕ) : List Cause → Type 0 where
+  here : {b : Bool} {cs : List Cause} → T b → FirstOf n ((n when b) ∷ cs)
+  later : {m : ℕ} {b : Bool} {cs : List Cause} → T (not b) → FirstOf n cs → FirstOf n ((m when b) ∷ cs)

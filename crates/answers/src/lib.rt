@@ -1,0 +1,1 @@
+// Answers and refusals as definitions: specs/Answer.antt.

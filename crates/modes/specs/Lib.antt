@@ -1,0 +1,3 @@
+pub mod Pieces
+pub mod Ctr
+pub mod Cmac

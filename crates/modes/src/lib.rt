@@ -1,0 +1,1 @@
+// CTR and CMAC over any block function, as definitions: specs/.
