@@ -1,11 +1,11 @@
 -- A refusal's number is that of the first cause that applies, and of no other. Assumes nothing.
-use mathlib.Core.Path.{_≡_, refl, ap, subst}
+use mathlib.Core.Path.{_≡_, refl, sym, ap, subst}
 use mathlib.Core.Bool.{Bool, true, false, not, cond}
 use mathlib.Core.List.{List, [], _∷_}
 use Prim.Native.Nat.{ℕ}
 use native.Mathlib.Omega.{arith}
 use lib.Dec.{T}
-use Rattle.answers.specs.Answer.{Answer, done, refused, Cause, _when_, first, FirstOf, here, later}
+use Rattle.answers.specs.Answer.{Answer, done, refused, Cause, _when_, first, ifDone, FirstOf, here, later}
 
 pub refused-first : (n : ℕ) (cs : List Cause) (a : Answer) → FirstOf n cs → first cs a ≡ refused n
 refused-first n cs a (here {b = true} t) = refl
@@ -17,3 +17,11 @@ pub first-refused : (n : ℕ) (cs : List Cause) (vs : List ℕ) → first cs (do
 first-refused n [] vs e = absurd (let z : _≡_ {A = ℕ} 0 1 = cc in omega arith)
 first-refused n ((m when true) ∷ cs) vs e = let z : n ≡ m = cc in subst (λ (k : ℕ). FirstOf n ((k when true) ∷ cs)) z (here tt)
 first-refused n ((m when false) ∷ cs) vs e = later tt (first-refused n cs vs e)
+
+-- ---- what follows from an answer
+
+pub if-done {ℓ} : {A : Type ℓ} {a : Answer} {vs : List ℕ} → a ≡ done vs → (x y : A) → x ≡ ifDone a x y
+if-done e x y = ap (λ (a : Answer). ifDone a x y) (sym e)
+
+pub if-refused {ℓ} : {A : Type ℓ} {a : Answer} {n : ℕ} → a ≡ refused n → (x y : A) → y ≡ ifDone a x y
+if-refused e x y = ap (λ (a : Answer). ifDone a x y) (sym e)

@@ -24,10 +24,14 @@ abbrev pub numberOf : Answer → ℕ
 numberOf (done vs) = 0
 numberOf (refused n) = n
 
--- done: xs written over o from its start, what lies past it untouched; refused: o as it came
+-- x where the work was done, y where it was refused
+abbrev pub ifDone {ℓ} : {A : Type ℓ} → Answer → A → A → A
+ifDone (done vs) x y = x
+ifDone (refused n) x y = y
+
+-- an entry's output o at its end: done, xs written from its start and what lies past it untouched; refused, as it came
 abbrev pub output : Answer → List ℕ → List ℕ → List ℕ
-output (done vs) xs o = put 0 xs o
-output (refused n) xs o = o
+output a xs o = ifDone a (put 0 xs o) o
 
 -- n is the number of the first cause that applies
 pub data FirstOf (n : ℕ) : List Cause → Type 0 where

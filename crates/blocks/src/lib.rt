@@ -45,6 +45,20 @@ pub fn block_at(s: &[u8], at: usize) -> [u8; 16]
     block
 }
 
+// The three blocks from `at`.
+pub fn blocks_at(s: &[u8], at: usize) -> [u8; 48]
+    requires { ⌜ at + 48 ≤ length (now s) ⌝ }
+    ensures { λ r. ⌜ r ≡ part at 48 (now (s .entry)) ⌝ }
+{
+    let mut blocks = [0u8; 48];
+    let mut i = 0;
+    while i < 48 {
+        blocks[i] = s[at + i];
+        i += 1;
+    }
+    blocks
+}
+
 // Writes the bytes of `src` from `at`.
 pub fn put_bytes(src: &[u8], out: &mut [u8], at: usize)
     requires { ⌜ at + length (now src) ≤ length (now out) ⌝ }

@@ -1,0 +1,41 @@
+-- The links as keying leaves them, and what keying answers. Assumes nothing.
+use mathlib.Core.Bool.{true, false, not}
+use mathlib.Core.List.{List, [], _∷_}
+use Prim.Native.Nat.{ℕ}
+use lib.Dec.{eqb}
+use lib.ListN.{length, replicate}
+use Rattle.blocks.specs.Put.{part}
+use Rattle.answers.specs.Answer.{Answer, done, refused, _when_, first}
+use Rattle.links.specs.declared.Sender.{Sender}
+use Rattle.links.specs.declared.Receiver.{Receiver}
+use Rattle.links.specs.declared.KeyAnswer.{KeyAnswer}
+use Rattle.links.specs.declared.KeyAnswer.the-variants.{Keyed, BadKeys}
+
+-- the bytes of key material that each link takes
+abbrev pub senderKeys : ℕ
+senderKeys = 96
+
+abbrev pub receiverKeys : ℕ
+receiverKeys = 32
+
+abbrev pub keySays : KeyAnswer → Answer
+keySays Keyed = done []
+keySays BadKeys = refused 1
+
+-- keying with the given bytes a link that takes n of them
+unfoldable pub keyAnswer : ℕ → List ℕ → Answer
+keyAnswer n keys = first ((1 when not (eqb (length keys) n)) ∷ []) (done [])
+
+-- a fresh link is all zeros and not keyed
+abbrev pub freshSender : Sender
+freshSender = record { keyed = false; number = 0; last = 0; ke = replicate 48 0; km = replicate 48 0 }
+
+abbrev pub freshReceiver : Receiver
+freshReceiver = record { keyed = false; number = 0; last = 0; ke = replicate 16 0; km = replicate 16 0 }
+
+-- the link number n keyed with the given bytes: KE, then KM; a sender's keys are three shares each
+abbrev pub senderOf : ℕ → List ℕ → Sender
+senderOf n keys = record { keyed = true; number = n; last = 0; ke = part 0 48 keys; km = part 48 48 keys }
+
+abbrev pub receiverOf : ℕ → List ℕ → Receiver
+receiverOf n keys = record { keyed = true; number = n; last = 0; ke = part 0 16 keys; km = part 16 16 keys }

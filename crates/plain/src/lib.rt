@@ -1,0 +1,1 @@
+// Plain sealing, and opening.

@@ -1,0 +1,1 @@
+// Shared sealing and the lane report.

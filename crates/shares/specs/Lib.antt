@@ -1,0 +1,4 @@
+pub mod Shares
+pub mod Sbox
+pub mod Tape
+pub mod Call

@@ -1,0 +1,1 @@
+// BAKSHEESH on three XOR shares.
