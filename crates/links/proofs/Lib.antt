@@ -1,1 +1,2 @@
 pub mod Keying
+pub mod Record

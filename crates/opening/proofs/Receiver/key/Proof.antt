@@ -4,12 +4,12 @@ use mathlib.Core.List.{List}
 use Prim.Native.Nat.{ℕ}
 use borrow.Author.Needs.{needs}
 use Rattle.answers.proofs.First.{if-done, if-refused}
-use Rattle.links.specs.declared.Receiver.{Receiver}
+use Rattle.opening.specs.declared.Receiver.{Receiver}
 use mathlib.Core.Bool.{true}
 use Rattle.links.proofs.Keying.{bad-keys, good-keys}
-use Rattle.links.specs.Links.{receiverKeys}
-use Rattle.links.proofs.Receiver.key.Statement.{statement}
-use Rattle.links.proofs.Receiver.key.Tie as tie
+use Rattle.opening.specs.Receivers.{receiverKeys}
+use Rattle.opening.proofs.Receiver.key.Statement.{statement}
+use Rattle.opening.proofs.Receiver.key.Tie as tie
 
 returns : tie.Need-returns
 returns c = let e = bad-keys receiverKeys (c .before .before .args .keys .now) (c .if1 .taken) in (sym e, if-refused e _ _)

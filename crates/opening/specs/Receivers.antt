@@ -1,0 +1,19 @@
+-- The receiving link as keying leaves it. Assumes nothing.
+use mathlib.Core.Bool.{true, false}
+use mathlib.Core.List.{List}
+use Prim.Native.Nat.{ℕ}
+use lib.ListN.{replicate}
+use Rattle.blocks.specs.Put.{part}
+use Rattle.opening.specs.declared.Receiver.{Receiver}
+
+-- the bytes of key material: KE, then KM
+abbrev pub receiverKeys : ℕ
+receiverKeys = 32
+
+-- a fresh link is all zeros and not keyed
+abbrev pub freshReceiver : Receiver
+freshReceiver = record { keyed = false; number = 0; last = 0; ke = replicate 16 0; km = replicate 16 0 }
+
+-- the link number n keyed with the given bytes
+abbrev pub receiverOf : ℕ → List ℕ → Receiver
+receiverOf n keys = record { keyed = true; number = n; last = 0; ke = part 0 16 keys; km = part 16 16 keys }
