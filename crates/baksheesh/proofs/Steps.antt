@@ -7,19 +7,15 @@ use Prim.Native.Nat.{ℕ, zero, suc, _+_, _%_, _<_}
 use native.Mathlib.Omega.{arith}
 use lib.Dec.{T, ltb, ltb→lt}
 use lib.ListN.{getD}
-use Rattle.bits.specs.Bit.{bit, number}
+use Rattle.bits.specs.Bit.{bit}
 use Rattle.bits.proofs.Test.{each, below, agree}
 use Rattle.blocks.specs.Bytes.{Block, _⊕_}
 use Rattle.blocks.specs.Bits.{bitAt}
 use Rattle.blocks.proofs.ByBits.{isBlock, bit-rearranged, rearranged-twice, rearranged-same, rearranged-block}
 use Rattle.blocks.proofs.Xor.{⊕-block}
-use Rattle.baksheesh.specs.Baksheesh.{sboxTable, invSboxTable, sbox, invSbox, to, from, subCells, permBits, constant, rotated, round, after}
+use Rattle.baksheesh.specs.Baksheesh.{sboxTable, invSboxTable, sbox, invSbox, cellOf, to, from, subCells, permBits, constant, rotated, round, after}
 
 -- ---- SubCells
-
--- the cell that f makes of the cell x
-abbrev pub cellOf : (ℕ → Bool → Bool → Bool → Bool → Bool) → ℕ → ℕ
-cellOf f x = number 4 (λ j. f j (bit x 0) (bit x 1) (bit x 2) (bit x 3))
 
 pub sbox-table : (x : ℕ) → x < 16 → cellOf sbox x ≡ getD sboxTable x 0
 unfolding bit

@@ -4,7 +4,7 @@ use mathlib.Core.List.{List, [], _∷_}
 use Prim.Native.Nat.{ℕ, zero, suc, _+_, _*_, _/_, _%_}
 use lib.Dec.{eqb}
 use lib.ListN.{getD}
-use Rattle.bits.specs.Bit.{bit, _⊻_}
+use Rattle.bits.specs.Bit.{bit, number, _⊻_}
 use Rattle.blocks.specs.Bytes.{_⊕_}
 use Rattle.blocks.specs.Bits.{blockOf, eachCell, rearranged}
 
@@ -33,6 +33,10 @@ invSbox zero y₀ y₁ y₂ y₃ = ((y₀ ⊻ y₃) && (y₁ ⊻ y₂)) ⊻ y₂
 invSbox (suc zero) y₀ y₁ y₂ y₃ = (y₀ && y₂) ⊻ (y₃ && (y₀ ⊻ y₂)) ⊻ y₀ ⊻ y₁ ⊻ y₃
 invSbox (suc (suc zero)) y₀ y₁ y₂ y₃ = (y₀ && (y₁ ⊻ y₂)) ⊻ y₀ ⊻ (y₁ && y₂) ⊻ y₂ ⊻ y₃
 invSbox (suc (suc (suc j))) y₀ y₁ y₂ y₃ = y₀ ⊻ y₁ ⊻ y₂
+
+-- the cell that a bit form makes of the cell x
+abbrev pub cellOf : (ℕ → Bool → Bool → Bool → Bool → Bool) → ℕ → ℕ
+cellOf f x = number 4 (λ j. f j (bit x 0) (bit x 1) (bit x 2) (bit x 3))
 
 abbrev pub subCells : List ℕ → List ℕ
 subCells = eachCell sbox

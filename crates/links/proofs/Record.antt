@@ -7,7 +7,7 @@ use lib.ListN.{length, take, drop, length-append, length-drop, length-replicate,
 use lib.Seq.{take-at, drop-at, drop-drop, length-take-le}
 use Rattle.blocks.specs.Bytes.{Bytes, Block}
 use Rattle.blocks.specs.Number.{bigEndian, value}
-use Rattle.blocks.specs.Put.{part}
+use Rattle.blocks.specs.Put.{part, put}
 use Rattle.blocks.proofs.Xor.{bytes-take, bytes-drop, bytes-append, bytes-replicate}
 use Rattle.blocks.proofs.Numbers.{bigEndian-length, bigEndian-bytes, bigEndian-says, bigEndian-value}
 use Rattle.links.specs.Record.{numberSize, sequenceSize, tagSize, headSize, recordSize, counterBlock, recordOf, linkIn, sequenceIn, textIn, tagIn}
@@ -21,6 +21,11 @@ counter-block n s i = record {
       (bytes-append (replicate 4 0) (bigEndian sequenceSize s ++ bigEndian 4 i) (bytes-replicate 4)
       (bytes-append (bigEndian sequenceSize s) (bigEndian 4 i) (bigEndian-bytes sequenceSize s) (bigEndian-bytes 4 i)));
 }
+
+-- a counter block written into zeros
+pub counter-written : (n s i : ℕ) → put 12 (bigEndian 4 i) (put 8 (bigEndian 4 s) (put 0 (bigEndian 4 n) (replicate 16 0))) ≡ counterBlock n s i
+unfolding put bigEndian counterBlock
+counter-written n s i = refl
 
 -- ---- what the fields of a record say
 

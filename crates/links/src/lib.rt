@@ -1,8 +1,9 @@
-// The sending link: what a sender holds between two calls, and its keying.
+// The sending link: what a sender holds between two calls, and its keying; counter blocks.
 ghost use mathlib.Core.Path.{_≡_};
 ghost use lib.ListN.{length};
 ghost use Rattle.answers.specs.Answer.{ifDone};
 ghost use Rattle.links.specs.Links.{senderKeys, keySays, keyAnswer, freshSender, senderOf};
+ghost use Rattle.links.specs.Record.{counterBlock};
 
 // The link's number, the last sequence number used, and the keys KE and KM as three shares each.
 pub struct Sender {
@@ -61,4 +62,15 @@ impl Sender {
             },
         }
     }
+}
+
+// Counter block i of a sealing.
+pub fn counter_block(number: u32, sequence: u32, i: u32) -> [u8; 16]
+    ensures { λ r. ⌜ r ≡ counterBlock number sequence i ⌝ }
+{
+    let mut block = [0u8; 16];
+    blocks::put_number(&mut block, 0, number);
+    blocks::put_number(&mut block, 8, sequence);
+    blocks::put_number(&mut block, 12, i);
+    block
 }

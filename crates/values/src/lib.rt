@@ -1,0 +1,1 @@
+// Worked values of the definitions: specs/Values.antt.
