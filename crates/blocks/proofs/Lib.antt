@@ -2,3 +2,4 @@ pub mod Xor
 pub mod ByBits
 pub mod Numbers
 pub mod Parts
+pub mod Same

@@ -1,7 +1,9 @@
 -- Lists of bytes, their XOR, and blocks of sixteen bytes. Assumes nothing.
 use mathlib.Core.Path.{_≡_}
+use mathlib.Core.Bool.{Bool, true, false, _&&_}
 use mathlib.Core.List.{List, [], _∷_}
 use Prim.Native.Nat.{ℕ, _<_}
+use lib.Dec.{eqb}
 use lib.ListN.{length, getD, replicate}
 use lib.Bits.{bitXor}
 
@@ -23,3 +25,10 @@ unfoldable pub _⊕_ : List ℕ → List ℕ → List ℕ
 -- the block of zeros
 unfoldable pub zeros : List ℕ
 zeros = replicate 16 0
+
+-- whether two lists are the same
+abbrev pub sameBytes : List ℕ → List ℕ → Bool
+sameBytes [] [] = true
+sameBytes [] (y ∷ b) = false
+sameBytes (x ∷ a) [] = false
+sameBytes (x ∷ a) (y ∷ b) = eqb x y && sameBytes a b

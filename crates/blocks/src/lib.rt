@@ -3,6 +3,7 @@ ghost use mathlib.Core.Path.{_≡_};
 ghost use mathlib.Core.List.{[], _∷_};
 ghost use Prim.Native.Nat.{_+_, _≤_, _<_};
 ghost use lib.ListN.{length};
+ghost use Rattle.blocks.specs.Bytes.{sameBytes};
 ghost use Rattle.blocks.specs.Number.{bigEndian, value};
 ghost use Rattle.blocks.specs.Put.{part, put};
 
@@ -69,4 +70,20 @@ pub fn put_bytes(src: &[u8], out: &mut [u8], at: usize)
         out[at + i] = src[i];
         i += 1;
     }
+}
+
+// Whether the 16 bytes from `at` are those of `block`: all of them are looked at.
+pub fn same_at(block: [u8; 16], s: &[u8], at: usize) -> bool
+    requires { ⌜ at + 16 ≤ length (now s) ⌝ }
+    ensures { λ r. ⌜ r ≡ sameBytes block (part at 16 (now (s .entry))) ⌝ }
+{
+    let mut same = true;
+    let mut i = 0;
+    while i < 16 {
+        if block[i] != s[at + i] {
+            same = false;
+        }
+        i += 1;
+    }
+    same
 }

@@ -1,0 +1,4 @@
+pub mod Pieces
+pub mod Ctr
+pub mod Doubled
+pub mod Cmac

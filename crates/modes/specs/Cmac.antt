@@ -1,5 +1,5 @@
 -- CMAC, NIST SP 800-38B section 6, over any block function E on 128-bit blocks. Assumes nothing.
-use mathlib.Core.Bool.{Bool, true, false, cond}
+use mathlib.Core.Bool.{false, cond}
 use mathlib.Core.List.{List, [], _∷_, _++_}
 use Prim.Native.Nat.{ℕ, zero, suc, _-_, max}
 use lib.Dec.{eqb}
@@ -22,6 +22,10 @@ R = replicate 15 0 ++ (0x87 ∷ [])
 unfoldable pub doubled : List ℕ → List ℕ
 doubled b = cond (bitAt b 127) (shifted b ⊕ R) (shifted b)
 
+-- a short block, padded by a bit 1 and bits 0
+abbrev pub padded : List ℕ → List ℕ
+padded p = p ++ (0x80 ∷ replicate (15 - length p) 0)
+
 -- how many blocks are authenticated: one for the empty message
 abbrev pub macCount : List ℕ → ℕ
 macCount m = max 1 (blockCount (length m))
@@ -35,11 +39,9 @@ module _ (E : List ℕ → List ℕ) where
 
   -- ---- the code (6.2)
 
-  -- the last block: complete, with the first subkey; or padded by a bit 1 and bits 0, with the second
+  -- the last block: complete, with the first subkey; or padded, with the second
   unfoldable pub lastBlock : List ℕ → List ℕ
-  lastBlock p =
-      cond (eqb (length p) 16) (subkey₁ ⊕ p)
-      (subkey₂ ⊕ (p ++ (0x80 ∷ replicate (15 - length p) 0)))
+  lastBlock p = cond (eqb (length p) 16) (subkey₁ ⊕ p) (subkey₂ ⊕ padded p)
 
   -- the chain over the first n blocks
   unfoldable pub chain : List ℕ → ℕ → List ℕ

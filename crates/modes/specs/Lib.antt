@@ -1,3 +1,4 @@
 pub mod Pieces
 pub mod Ctr
 pub mod Cmac
+pub mod Chain

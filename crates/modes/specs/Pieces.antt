@@ -1,7 +1,6 @@
 -- A message cut into blocks of sixteen bytes, of which the last may be shorter. Assumes nothing.
 use mathlib.Core.List.{List}
 use Prim.Native.Nat.{ℕ, _+_, _*_, _/_}
-use lib.ListN.{length}
 use Rattle.blocks.specs.Put.{part}
 
 -- how many blocks m bytes make

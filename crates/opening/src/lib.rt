@@ -19,6 +19,22 @@ pub struct ReceiverKeying {
     pub link: Receiver,
 }
 
+pub enum OpenAnswer {
+    // The length written.
+    Opened { len: usize },
+    NotKeyed,
+    BadLength,
+    OtherLink,
+    ShortOutput,
+    OldNumber,
+    WrongTag,
+}
+
+pub struct Opening {
+    pub answer: OpenAnswer,
+    pub link: Receiver,
+}
+
 impl Receiver {
     // All zeros, and not keyed.
     pub fn fresh() -> Receiver

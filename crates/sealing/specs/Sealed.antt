@@ -1,6 +1,6 @@
 -- One sealing on shares: its calls, its record, its lanes. Assumes nothing.
-use mathlib.Core.Bool.{Bool, cond}
-use mathlib.Core.List.{List, _∷_, _++_}
+use mathlib.Core.Bool.{cond}
+use mathlib.Core.List.{List, _++_}
 use Prim.Native.Nat.{ℕ, zero, suc, _+_, _-_, _%_}
 use lib.Dec.{eqb}
 use lib.ListN.{length, take, replicate}
@@ -8,7 +8,7 @@ use Rattle.blocks.specs.Bytes.{_⊕_, zeros}
 use Rattle.baksheesh.specs.Baksheesh.{rounds}
 use Rattle.modes.specs.Pieces.{blockCount, piece}
 use Rattle.modes.specs.Ctr as Ctr
-use Rattle.modes.specs.Cmac.{doubled}
+use Rattle.modes.specs.Cmac.{doubled, padded}
 use Rattle.links.specs.Record.{counterBlock, recordOf}
 use Rattle.links.specs.declared.Sender.{Sender}
 use Rattle.shares.specs.Shares.{Index, Shares, join, add, each, only, sharesIn}
@@ -21,8 +21,8 @@ abbrev pub cut : ℕ → List ℕ → List ℕ
 cut w b = take w b ++ replicate (16 - w) 0
 
 -- a message block, padded where it is not complete
-abbrev pub padded : List ℕ → List ℕ
-padded p = cond (eqb (length p) 16) p (p ++ (0x80 ∷ replicate (15 - length p) 0))
+abbrev pub completed : List ℕ → List ℕ
+completed p = cond (eqb (length p) 16) p (padded p)
 
 -- the sealing of the message m on the link x with what is read of a tape
 module _ (x : Sender) (m : List ℕ) (M : Reader) where
@@ -54,7 +54,7 @@ module _ (x : Sender) (m : List ℕ) (M : Reader) where
   -- message block and its padding in share 0
   unfoldable pub macBlock : ℕ → Shares
   macBlock zero = only (counter 0)
-  macBlock (suc j) = add (each (cut (length (piece j m))) (ctrOut j)) (only (padded (piece j m)))
+  macBlock (suc j) = add (each (cut (length (piece j m))) (ctrOut j)) (only (completed (piece j m)))
 
   -- the chain before block j, from three zero shares, and the input of CMAC's call for block j
   unfoldable pub chain : ℕ → Shares

@@ -2,3 +2,4 @@ pub mod Shares
 pub mod Sbox
 pub mod Tape
 pub mod Call
+pub mod OneTape

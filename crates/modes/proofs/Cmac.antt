@@ -1,0 +1,109 @@
+-- CMAC: its values are blocks, and its form with a whole block in front of the message. Assumes nothing.
+use mathlib.Core.Path.{_≡_, refl, ap, ap₂, _∙_}
+use mathlib.Core.List.{List, _∷_, _++_}
+use Prim.Native.Nat.{ℕ, zero, suc, _+_, _-_, _*_, _≤_, _<_}
+use native.Mathlib.Numerals.{add-one}
+use native.Mathlib.Decide.{decLt}
+use native.Mathlib.Omega.{arith}
+use lib.ListN.{length, replicate, length-append, length-replicate}
+use borrow.Author.Tests.{eq-eqb, ne-eqb}
+use Rattle.blocks.specs.Bytes.{Bytes, Block, _⊕_, zeros}
+use Rattle.blocks.proofs.Xor.{⊕-block, zeros-block, bytes-append, bytes-cons, bytes-replicate}
+use Rattle.modes.specs.Pieces.{blockCount, piece}
+use Rattle.modes.specs.Cmac.{padded, macCount, subkey₁, subkey₂, lastBlock, chain, cmac}
+use Rattle.modes.specs.Chain.{chainFrom}
+use Rattle.modes.proofs.Pieces.{macCount-behind, piece-le, piece-bytes, piece-block, piece-front, piece-behind}
+use Rattle.modes.proofs.Doubled.{doubled-block}
+
+pub padded-block : (p : List ℕ) → Bytes p → length p < 16 → Block (padded p)
+padded-block p b h = record {
+  size = simp (length-append, length-replicate) (omega arith);
+  bytes = bytes-append p (0x80 ∷ replicate (15 - length p) 0) b (bytes-cons 0x80 (replicate (15 - length p) 0) (omega arith) (bytes-replicate (15 - length p)));
+}
+
+module _ (E : List ℕ → List ℕ) where
+  -- ---- the last block
+
+  pub last-whole : (p : List ℕ) → length p ≡ 16 → lastBlock E p ≡ subkey₁ E ⊕ p
+  unfolding lastBlock
+  last-whole p e = rw (eq-eqb (length p) 16 e)
+
+  pub last-padded : (p : List ℕ) → length p < 16 → lastBlock E p ≡ subkey₂ E ⊕ padded p
+  unfolding lastBlock
+  last-padded p h = rw (ne-eqb (length p) 16 (λ e. omega arith))
+
+  -- ---- the chain, turn by turn
+
+  pub chainFrom-zero : (x m : List ℕ) → chainFrom E x m 0 ≡ x
+  unfolding chainFrom
+  chainFrom-zero x m = refl
+
+  pub chainFrom-more : (x m : List ℕ) (n : ℕ) → chainFrom E x m (n + 1) ≡ E (chainFrom E x m n ⊕ piece n m)
+  unfolding chainFrom
+  chainFrom-more x m n = rw add-one
+
+  pub chain-from : (m : List ℕ) (n : ℕ) → chain E m n ≡ chainFrom E zeros m n
+  unfolding chain chainFrom
+  chain-from m zero = refl
+  chain-from m (suc n) = ap (λ (z : List ℕ). E (z ⊕ piece n m)) (chain-from m n)
+
+  -- ---- a whole block in front
+
+  module _ (c t : List ℕ) (size : length c ≡ 16) where
+    pub chain-front : (n : ℕ) → chain E (c ++ t) (suc n) ≡ chainFrom E (E (zeros ⊕ c)) t n
+    unfolding chain chainFrom
+    chain-front zero = ap (λ (p : List ℕ). E (zeros ⊕ p)) (piece-front c t size)
+    chain-front (suc n) = ap₂ (λ (x p : List ℕ). E (x ⊕ p)) (chain-front n) (piece-behind n c t size)
+
+    -- nothing behind it
+    pub cmac-alone : length t ≡ 0 → cmac E (c ++ t) ≡ E (zeros ⊕ lastBlock E c)
+    unfolding cmac chain
+    cmac-alone e =
+        let k : macCount (c ++ t) - 1 ≡ 0 = omega (arith, macCount-behind c t size) in
+        ap (λ (n : ℕ). E (chain E (c ++ t) n ⊕ lastBlock E (piece n (c ++ t)))) k
+        ∙ ap (λ (p : List ℕ). E (zeros ⊕ lastBlock E p)) (piece-front c t size)
+
+    -- k blocks and the last behind it
+    pub cmac-front : (k : ℕ) → blockCount (length t) ≡ k + 1
+        → cmac E (c ++ t) ≡ E (chainFrom E (E (zeros ⊕ c)) t k ⊕ lastBlock E (piece k t))
+    unfolding cmac
+    cmac-front k e =
+        let l : macCount (c ++ t) - 1 ≡ suc k = omega (arith, macCount-behind c t size) in
+        ap (λ (n : ℕ). E (chain E (c ++ t) n ⊕ lastBlock E (piece n (c ++ t)))) l
+        ∙ ap₂ (λ (x p : List ℕ). E (x ⊕ lastBlock E p)) (chain-front k) (piece-behind k c t size)
+
+  -- ---- blocks
+
+  pub subkey₁-block : Block (subkey₁ E)
+  unfolding subkey₁
+  subkey₁-block = doubled-block (E zeros)
+
+  pub subkey₂-block : Block (subkey₂ E)
+  unfolding subkey₂
+  subkey₂-block = doubled-block (subkey₁ E)
+
+  pub last-block : (p : List ℕ) → Bytes p → length p ≤ 16 → Block (lastBlock E p)
+  last-block p b h = elim (decLt (length p) 16) [
+    | yes l ↦ rw (last-padded p l) (⊕-block subkey₂-block (padded-block p b l))
+    | no l ↦
+        let e : length p ≡ 16 = omega arith in
+        rw (last-whole p e) (⊕-block subkey₁-block (record { size = e; bytes = b }))
+  ]
+
+  module _ (keeps : (x : List ℕ) → Block x → Block (E x)) where
+    pub chainFrom-block : (x m : List ℕ) → Block x → Bytes m → (n : ℕ) → 16 * n ≤ length m → Block (chainFrom E x m n)
+    unfolding chainFrom
+    chainFrom-block x m w b zero h = w
+    chainFrom-block x m w b (suc n) h =
+        keeps (chainFrom E x m n ⊕ piece n m)
+        (⊕-block (chainFrom-block x m w b n (omega arith)) (piece-block n m b (omega arith)))
+
+    pub chain-block : (m : List ℕ) → Bytes m → (n : ℕ) → 16 * n ≤ length m → Block (chain E m n)
+    chain-block m b n h = rw chain-from (chainFrom-block zeros m zeros-block b n h)
+
+    pub cmac-block : (m : List ℕ) → Bytes m → Block (cmac E m)
+    unfolding cmac
+    cmac-block m b =
+        let k : ℕ = macCount m - 1 in
+        keeps (chain E m k ⊕ lastBlock E (piece k m))
+        (⊕-block (chain-block m b k (omega arith)) (last-block (piece k m) (piece-bytes k m b) (piece-le k m)))

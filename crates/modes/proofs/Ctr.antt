@@ -1,0 +1,105 @@
+-- Counter mode: how long, which bytes, block by block, and that it undoes itself. Assumes nothing.
+use mathlib.Core.Path.{_≡_, refl, sym, ap, _∙_}
+use mathlib.Core.List.{List, [], _∷_, _++_}
+use Prim.Native.Nat.{ℕ, zero, suc, _+_, _*_, _<_, min}
+use native.Mathlib.Numerals.{add-one}
+use native.Mathlib.Omega.{arith}
+use lib.ListN.{length, take, length-append}
+use lib.Bits.{bitXor}
+use Rattle.blocks.specs.Bytes.{Bytes, Block, _⊕_}
+use Rattle.blocks.proofs.Xor.{⊕-comm, ⊕-length, ⊕-bytes, ⊕-cancel-le}
+use Rattle.modes.specs.Pieces.{blockCount, piece}
+use Rattle.modes.specs.Ctr.{ctrPiece, ctrTo, ctr}
+use Rattle.modes.proofs.Pieces.{piece-length, piece-le, piece-bytes, joined, joined-same, joined-bytes, piece-joined, message-joined}
+
+⊕-take : (a b : List ℕ) → a ⊕ take (length a) b ≡ a ⊕ b
+unfolding _⊕_
+⊕-take [] b = refl
+⊕-take (x ∷ a) [] = refl
+⊕-take (x ∷ a) (y ∷ b) = ap (λ (l : List ℕ). bitXor x y ∷ l) (⊕-take a b)
+
+module _ (E : List ℕ → List ℕ) (T : ℕ → List ℕ) where
+  -- XOR is as long as the shorter: a block, whole or short, with the whole output block
+  pub ctrPiece-⊕ : (m : List ℕ) (j : ℕ) → ctrPiece E T m j ≡ piece j m ⊕ E (T j)
+  ctrPiece-⊕ m j = ⊕-take (piece j m) (E (T j))
+
+  -- ---- turn by turn
+
+  pub ctrTo-zero : (m : List ℕ) → ctrTo E T m 0 ≡ []
+  unfolding ctrTo
+  ctrTo-zero m = refl
+
+  pub ctrTo-more : (m : List ℕ) (n : ℕ) → ctrTo E T m (n + 1) ≡ ctrTo E T m n ++ ctrPiece E T m n
+  unfolding ctrTo
+  ctrTo-more m n = rw add-one
+
+  pub ctrTo-all : (m : List ℕ) (n : ℕ) → n ≡ blockCount (length m) → ctrTo E T m n ≡ ctr E T m
+  unfolding ctr
+  ctrTo-all m n e = ap (ctrTo E T m) e
+
+  ctrTo-joined : (m : List ℕ) (n : ℕ) → ctrTo E T m n ≡ joined (ctrPiece E T m) n
+  unfolding ctrTo joined
+  ctrTo-joined m zero = refl
+  ctrTo-joined m (suc n) = ap (λ (z : List ℕ). z ++ ctrPiece E T m n) (ctrTo-joined m n)
+
+  ctr-joined : (m : List ℕ) → ctr E T m ≡ joined (ctrPiece E T m) (blockCount (length m))
+  unfolding ctr
+  ctr-joined m = ctrTo-joined m (blockCount (length m))
+
+  module _ (outputs : (j : ℕ) → Block (E (T j))) where
+    pub ctrPiece-length : (m : List ℕ) (j : ℕ) → length (ctrPiece E T m j) ≡ length (piece j m)
+    ctrPiece-length m j =
+        let o = outputs j in
+        ap length (ctrPiece-⊕ m j) ∙ ⊕-length (piece j m) (E (T j)) ∙ omega (arith, piece-le j m)
+
+    pub ctrTo-length : (m : List ℕ) (n : ℕ) → length (ctrTo E T m n) ≡ min (16 * n) (length m)
+    unfolding ctrTo
+    ctrTo-length m zero = omega arith
+    ctrTo-length m (suc n) =
+        length-append (ctrTo E T m n) (ctrPiece E T m n)
+        ∙ omega (arith, ctrTo-length m n, ctrPiece-length m n, piece-length n m)
+
+    pub ctrTo-whole : (m : List ℕ) (n : ℕ) → n < blockCount (length m) → length (ctrTo E T m n) ≡ 16 * n
+    ctrTo-whole m n h = omega (arith, ctrTo-length m n)
+
+    pub ctr-length : (m : List ℕ) → length (ctr E T m) ≡ length m
+    unfolding ctr
+    ctr-length m = omega (arith, ctrTo-length m (blockCount (length m)))
+
+    pub ctrPiece-bytes : (m : List ℕ) → Bytes m → (j : ℕ) → Bytes (ctrPiece E T m j)
+    ctrPiece-bytes m b j = rw (ctrPiece-⊕ m j) (⊕-bytes (piece j m) (E (T j)) (piece-bytes j m b) (outputs j .bytes))
+
+    pub ctr-bytes : (m : List ℕ) → Bytes m → Bytes (ctr E T m)
+    ctr-bytes m b = rw ctr-joined (joined-bytes (ctrPiece E T m) (blockCount (length m)) (ctrPiece-bytes m b))
+
+    pub piece-ctr : (m : List ℕ) (j : ℕ) → j < blockCount (length m) → piece j (ctr E T m) ≡ ctrPiece E T m j
+    piece-ctr m j h =
+        ap (piece j) (ctr-joined m)
+        ∙ piece-joined (ctrPiece E T m) (blockCount (length m))
+        (λ i. omega (arith, ctrPiece-length m i, piece-le i m))
+        (λ i l. omega (arith, ctrPiece-length m i, piece-length i m)) j h
+
+    -- a block twice is the message's
+    again : (m : List ℕ) (j : ℕ) → j < blockCount (length m) → ctrPiece E T (ctr E T m) j ≡ piece j m
+    again m j h =
+        let o = outputs j in
+        ctrPiece-⊕ (ctr E T m) j
+        ∙ ap (λ (p : List ℕ). p ⊕ E (T j)) (piece-ctr m j h ∙ ctrPiece-⊕ m j ∙ ⊕-comm (piece j m) (E (T j)))
+        ∙ ⊕-comm (E (T j) ⊕ piece j m) (E (T j))
+        ∙ ⊕-cancel-le (E (T j)) (piece j m) (omega (arith, piece-le j m))
+
+    pub ctr-ctr : (m : List ℕ) → ctr E T (ctr E T m) ≡ m
+    ctr-ctr m =
+        ctr-joined (ctr E T m)
+        ∙ ap (λ (n : ℕ). joined (ctrPiece E T (ctr E T m)) (blockCount n)) (ctr-length m)
+        ∙ joined-same (ctrPiece E T (ctr E T m)) (λ j. piece j m) (blockCount (length m)) (again m)
+        ∙ message-joined m
+
+-- the same output blocks, the same result
+pub ctr-same : (E F : List ℕ → List ℕ) (S T : ℕ → List ℕ) (m : List ℕ)
+    → ((j : ℕ) → j < blockCount (length m) → E (S j) ≡ F (T j)) → ctr E S m ≡ ctr F T m
+ctr-same E F S T m e =
+    ctr-joined E S m
+    ∙ joined-same (ctrPiece E S m) (ctrPiece F T m) (blockCount (length m))
+    (λ j h. ap (λ (k : List ℕ). piece j m ⊕ take (length (piece j m)) k) (e j h))
+    ∙ sym (ctr-joined F T m)

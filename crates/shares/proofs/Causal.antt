@@ -1,0 +1,31 @@
+-- All that a call has before a round's masks hangs on the tape before them. Assumes nothing.
+use mathlib.Core.Path.{_≡_, ap, ap₂}
+use Prim.Native.Nat.{ℕ, zero, suc, _+_, _*_, _≤_}
+use native.Mathlib.Omega.{arith}
+use Rattle.baksheesh.specs.Baksheesh.{rounds, rotated}
+use Rattle.shares.specs.Shares.{Shares, add, each, spread}
+use Rattle.shares.specs.Tape.{Reader, pairSize, callSize, masksAt}
+use Rattle.shares.specs.Call.{shareRound, state, call, masked}
+
+-- two tapes agree below o
+abbrev pub Agree : Reader → Reader → ℕ → Type 0
+Agree M N o = (p : ℕ) → p + 16 ≤ o → M p ≡ N p
+
+module _ (M N : Reader) where
+  pub masksAt-agree : (o : ℕ) → Agree M N (o + pairSize) → masksAt M o ≡ masksAt N o
+  masksAt-agree o h = ap₂ spread (h o (omega arith)) (h (o + 16) (omega arith))
+
+  module _ {key key′ input input′ : Shares} (o : ℕ) (e : key ≡ key′) (f : input ≡ input′) where
+    pub state-agree : (n : ℕ) → Agree M N (o + pairSize * n) → state key input M o n ≡ state key′ input′ N o n
+    unfolding state
+    state-agree zero h = ap₂ add f e
+    state-agree (suc n) h =
+        ap₂ (shareRound n)
+        (ap₂ add (state-agree n (λ p k. h p (omega arith))) (masksAt-agree (o + pairSize * n) (λ p k. h p (omega arith)))) (ap (each (rotated (suc n))) e)
+
+    pub call-agree : Agree M N (o + callSize) → call key input M o ≡ call key′ input′ N o
+    call-agree h = state-agree rounds h
+
+    pub masked-agree : (n : ℕ) → Agree M N (o + pairSize * n + pairSize) → masked key input M o n ≡ masked key′ input′ N o n
+    unfolding masked
+    masked-agree n h = ap₂ add (state-agree n (λ p k. h p (omega arith))) (masksAt-agree (o + pairSize * n) h)

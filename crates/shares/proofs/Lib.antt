@@ -1,0 +1,5 @@
+pub mod Sbox
+pub mod Shape
+pub mod Joins
+pub mod Causal
+pub mod Tape

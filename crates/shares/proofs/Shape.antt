@@ -1,0 +1,78 @@
+-- Every share of a call is a block. Assumes nothing.
+use mathlib.Core.Bool.{Bool, true, false, cond}
+use mathlib.Core.List.{List}
+use Prim.Native.Nat.{ℕ, zero, suc, _+_, _*_, _≤_}
+use native.Mathlib.Omega.{arith}
+use Rattle.blocks.specs.Bytes.{Block, zeros, _⊕_}
+use Rattle.blocks.proofs.Xor.{⊕-block, zeros-block}
+use Rattle.blocks.proofs.ByBits.{rearranged-block}
+use Rattle.baksheesh.specs.Baksheesh.{rounds, constant, rotated}
+use Rattle.baksheesh.proofs.Steps.{constant-block}
+use Rattle.shares.specs.Shares.{Index, i₀, i₁, i₂, next, isFirst, Shares, Blocks, three, join, add, each, spread, only}
+use Rattle.shares.specs.Tape.{Reader, pairSize, callSize, masksAt}
+use Rattle.shares.specs.Call.{laneRound, shareRound, state, call, masked, roundKey}
+
+-- a tape gives blocks below o
+abbrev pub Reads : Reader → ℕ → Type 0
+Reads M o = (p : ℕ) → p + 16 ≤ o → Block (M p)
+
+-- ---- shares
+
+pub three-blocks : {a b c : List ℕ} → Block a → Block b → Block c → Blocks (three a b c)
+three-blocks p q r i₀ = p
+three-blocks p q r i₁ = q
+three-blocks p q r i₂ = r
+
+pub add-blocks : {s m : Shares} → Blocks s → Blocks m → Blocks (add s m)
+add-blocks p q i = ⊕-block (p i) (q i)
+
+pub spread-blocks : {u v : List ℕ} → Block u → Block v → Blocks (spread u v)
+spread-blocks p q = three-blocks p q (⊕-block p q)
+
+pub only-blocks : {b : List ℕ} → Block b → Blocks (only b)
+only-blocks p = three-blocks p zeros-block zeros-block
+
+pub each-blocks : {f : List ℕ → List ℕ} → ((b : List ℕ) → Block b → Block (f b)) → {s : Shares} → Blocks s → Blocks (each f s)
+each-blocks h {s} p i = h (s i) (p i)
+
+pub join-block : {s : Shares} → Blocks s → Block (join s)
+unfolding join
+join-block p = ⊕-block (p i₀) (⊕-block (p i₁) (p i₂))
+
+pub masksAt-blocks : (M : Reader) (o : ℕ) → Reads M (o + pairSize) → Blocks (masksAt M o)
+masksAt-blocks M o h = spread-blocks (h o (omega arith)) (h (o + 16) (omega arith))
+
+-- ---- a round
+
+pub laneRound-block : (n : ℕ) (first : Bool) (a b : List ℕ) {k : List ℕ} → Block k → Block (laneRound n first a b k)
+unfolding laneRound
+laneRound-block n first a b p = ⊕-block (⊕-block (rearranged-block _ _) (constants first)) p
+  where
+    constants : (first : Bool) → Block (cond first (constant n) zeros)
+    constants true = constant-block n
+    constants false = zeros-block
+
+pub shareRound-blocks : (n : ℕ) (s : Shares) {k : Shares} → Blocks k → Blocks (shareRound n s k)
+shareRound-blocks n s p = three-blocks (laneRound-block n _ _ _ (p i₀)) (laneRound-block n _ _ _ (p i₁)) (laneRound-block n _ _ _ (p i₂))
+
+-- ---- a call
+
+pub rotated-blocks : (n : ℕ) (s : Shares) → Blocks (each (rotated n) s)
+rotated-blocks n s i = rearranged-block _ (s i)
+
+pub roundKey-blocks : (key input : Shares) (M : Reader) (o n : ℕ) → Blocks (roundKey key input M o n)
+unfolding roundKey
+roundKey-blocks key input M o n = rotated-blocks (suc n) key
+
+module _ {key input : Shares} (M : Reader) (o : ℕ) (p : Blocks key) (q : Blocks input) where
+  pub state-blocks : (n : ℕ) → Blocks (state key input M o n)
+  unfolding state
+  state-blocks zero = add-blocks q p
+  state-blocks (suc n) = shareRound-blocks n (add (state key input M o n) (masksAt M (o + pairSize * n))) (rotated-blocks (suc n) key)
+
+  pub call-blocks : Blocks (call key input M o)
+  call-blocks = state-blocks rounds
+
+  pub masked-blocks : (n : ℕ) → Reads M (o + pairSize * n + pairSize) → Blocks (masked key input M o n)
+  unfolding masked
+  masked-blocks n h = add-blocks (state-blocks n) (masksAt-blocks M (o + pairSize * n) h)

@@ -1,0 +1,115 @@
+//! Holds the C calls of librasppuce.a to code written for these tests alone.
+//!
+//!     tests [SEED]                all checks; the last line is `N passed, 0 failed`
+//!     tests --self-test [SEED]    one bit of each expected value is flipped: every check has to
+//!                                 fail, and the exit status is 1; it is 0 if one passed
+//!     tests encrypt KEY BLOCK     32 hexadecimal digits each: the ciphertext, by the tests' own cipher
+//!     tests decrypt KEY BLOCK     the plaintext
+//!     tests cases COUNT [SEED]    lines of key, block, ciphertext: the published vectors, then
+//!                                 COUNT random ones by the tests' own cipher
+
+mod blocks;
+mod calls;
+mod cipher;
+mod definition;
+mod guarded;
+mod hex;
+mod random;
+mod tally;
+mod vectors;
+
+use hex::Hex;
+use random::Random;
+use std::env;
+use std::process::ExitCode;
+use tally::Tally;
+
+const SEED: u64 = 0x0123_4567_89ab_cdef;
+
+/// Every group of checks: a line here for each.
+const GROUPS: &[(&str, fn(&mut Tally))] = &[
+    ("own cipher, tables", definition::tables),
+    ("own cipher, published vectors", vectors::own_cipher),
+    ("block calls, published vectors", blocks::published),
+    ("block calls, random keys and blocks", blocks::random),
+    ("block calls, single bits", blocks::single_bits),
+    ("block calls, every byte at every place", blocks::every_byte),
+    ("block calls, lengths 0 to 40", blocks::short_lengths),
+    ("block calls, longer slices", blocks::long_lengths),
+    ("block calls, null pointers", blocks::null_pointers),
+];
+
+fn main() -> ExitCode {
+    let words: Vec<String> = env::args().skip(1).collect();
+    let words: Vec<&str> = words.iter().map(String::as_str).collect();
+    match obey(&words) {
+        Some(code) => code,
+        None => {
+            eprintln!("usage: tests [--self-test] [SEED]");
+            eprintln!("       tests encrypt KEY BLOCK | decrypt KEY BLOCK | cases COUNT [SEED]");
+            ExitCode::from(2)
+        }
+    }
+}
+
+/// Does what the words ask; None where they make no sense.
+fn obey(words: &[&str]) -> Option<ExitCode> {
+    match words {
+        ["encrypt", key, block] => {
+            println!("{}", Hex(&cipher::encrypt(&hex::block(key)?, &hex::block(block)?)));
+            Some(ExitCode::SUCCESS)
+        }
+        ["decrypt", key, block] => {
+            println!("{}", Hex(&cipher::decrypt(&hex::block(key)?, &hex::block(block)?)));
+            Some(ExitCode::SUCCESS)
+        }
+        ["cases", count] => print_cases(count.parse().ok()?, SEED),
+        ["cases", count, seed] => print_cases(count.parse().ok()?, number(seed)?),
+        ["--self-test"] => self_test(SEED),
+        ["--self-test", seed] => self_test(number(seed)?),
+        [] => all_checks(SEED),
+        [seed] => all_checks(number(seed)?),
+        _ => None,
+    }
+}
+
+/// A seed in decimal digits, or in hexadecimal ones after 0x.
+fn number(word: &str) -> Option<u64> {
+    match word.strip_prefix("0x") {
+        Some(digits) => u64::from_str_radix(digits, 16).ok(),
+        None => word.parse().ok(),
+    }
+}
+
+fn run_groups(tally: &mut Tally) {
+    println!("seed {:#x}", tally.seed);
+    for (name, checks) in GROUPS {
+        tally.group(name, *checks);
+    }
+}
+
+fn all_checks(seed: u64) -> Option<ExitCode> {
+    let mut tally = Tally::new(seed, false);
+    run_groups(&mut tally);
+    Some(if tally.summary() { ExitCode::SUCCESS } else { ExitCode::FAILURE })
+}
+
+fn self_test(seed: u64) -> Option<ExitCode> {
+    let mut tally = Tally::new(seed, true);
+    println!("one bit of each expected value is flipped, so every check has to fail");
+    run_groups(&mut tally);
+    tally.summary();
+    Some(if tally.all_caught() { ExitCode::FAILURE } else { ExitCode::SUCCESS })
+}
+
+fn print_cases(count: usize, seed: u64) -> Option<ExitCode> {
+    for vector in &vectors::PUBLISHED {
+        println!("{} {} {}", vector.key, vector.plaintext, vector.ciphertext);
+    }
+    let mut random = Random::new(seed);
+    for _ in 0..count {
+        let (key, block) = (random.block(), random.block());
+        println!("{} {} {}", Hex(&key), Hex(&block), Hex(&cipher::encrypt(&key, &block)));
+    }
+    Some(ExitCode::SUCCESS)
+}
