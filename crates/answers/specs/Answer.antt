@@ -1,5 +1,6 @@
 -- What an entry answers: it does its work and returns values, or refuses under a number. Assumes nothing.
-use mathlib.Core.Bool.{Bool, not, cond}
+use mathlib.Core.Path.{_≡_}
+use mathlib.Core.Bool.{Bool, false, not, cond}
 use mathlib.Core.List.{List, [], _∷_}
 use Prim.Native.Nat.{ℕ}
 use lib.Dec.{T}
@@ -37,3 +38,8 @@ output a xs o = ifDone a (put 0 xs o) o
 pub data FirstOf (n : ℕ) : List Cause → Type 0 where
   here : {b : Bool} {cs : List Cause} → T b → FirstOf n ((n when b) ∷ cs)
   later : {m : ℕ} {b : Bool} {cs : List Cause} → T (not b) → FirstOf n cs → FirstOf n ((m when b) ∷ cs)
+
+-- no cause applies
+abbrev pub NoneOf : List Cause → Type 0
+NoneOf [] = Unit {0}
+NoneOf ((n when b) ∷ cs) = (b ≡ false) × NoneOf cs

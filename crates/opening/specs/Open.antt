@@ -21,29 +21,28 @@ openSays ShortOutput = refused 4
 openSays OldNumber = refused 22
 openSays WrongTag = refused 9
 
--- the link x, the record r, and room for o bytes of message
-module _ (x : Receiver) (r : List ℕ) (o : ℕ) where
-  -- the record's message is as long as its ciphertext
-  abbrev pub messageSize : ℕ
-  messageSize = length r - recordSize 0
+-- how long the record's message is
+abbrev pub messageSize : List ℕ → ℕ
+messageSize r = length r - recordSize 0
 
-  -- the tag that the record should have
-  abbrev pub rightTag : List ℕ
-  rightTag = tagOf (x .km) (x .number) (sequenceIn r) (textIn r)
+-- the tag that the record should have
+abbrev pub rightTag : Receiver → List ℕ → List ℕ
+rightTag x r = tagOf (x .km) (x .number) (sequenceIn r) (textIn r)
 
-  abbrev pub openCauses : List Cause
-  openCauses =
-      (20 when not (x .keyed))
-      ∷ (7 when ltb (length r) (recordSize 0))
-      ∷ (7 when ltb (recordSize longest) (length r))
-      ∷ (8 when not (eqb (linkIn r) (x .number)))
-      ∷ (4 when ltb o messageSize)
-      ∷ (22 when leb (sequenceIn r) (x .last))
-      ∷ (9 when not (sameBytes rightTag (tagIn r)))
-      ∷ []
+-- opening the record r on the link x with room for o bytes
+abbrev pub openCauses : Receiver → List ℕ → ℕ → List Cause
+openCauses x r o =
+    (20 when not (x .keyed))
+    ∷ (7 when ltb (length r) (recordSize 0))
+    ∷ (7 when ltb (recordSize longest) (length r))
+    ∷ (8 when not (eqb (linkIn r) (x .number)))
+    ∷ (4 when ltb o (messageSize r))
+    ∷ (22 when leb (sequenceIn r) (x .last))
+    ∷ (9 when not (sameBytes (rightTag x r) (tagIn r)))
+    ∷ []
 
-  unfoldable pub openAnswer : Answer
-  openAnswer = first openCauses (done (messageSize ∷ []))
+unfoldable pub openAnswer : Receiver → List ℕ → ℕ → Answer
+openAnswer x r o = first (openCauses x r o) (done (messageSize r ∷ []))
 
 -- the link with the sequence number s accepted
 abbrev pub accepting : Receiver → ℕ → Receiver

@@ -13,7 +13,7 @@ Agree M N o = (p : ℕ) → p + 16 ≤ o → M p ≡ N p
 
 module _ (M N : Reader) where
   pub masksAt-agree : (o : ℕ) → Agree M N (o + pairSize) → masksAt M o ≡ masksAt N o
-  masksAt-agree o h = ap₂ spread (h o (omega arith)) (h (o + 16) (omega arith))
+  masksAt-agree o h = ap₂ spread (h _ (omega arith)) (h _ (omega arith))
 
   module _ {key key′ input input′ : Shares} (o : ℕ) (e : key ≡ key′) (f : input ≡ input′) where
     pub state-agree : (n : ℕ) → Agree M N (o + pairSize * n) → state key input M o n ≡ state key′ input′ N o n

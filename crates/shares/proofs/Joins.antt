@@ -1,15 +1,15 @@
 -- The joined shares of a call are the plain cipher's blocks, round by round. Assumes nothing.
-use mathlib.Core.Path.{_≡_, refl, sym, ap, ap₂, _∙_}
+use mathlib.Core.Path.{_≡_, sym, ap, ap₂, _∙_}
 use mathlib.Core.List.{List}
-use Prim.Native.Nat.{ℕ, zero, suc, _+_, _*_, _≤_}
+use Prim.Native.Nat.{ℕ, zero, suc, _+_, _*_}
 use native.Mathlib.Omega.{arith}
 use Rattle.blocks.specs.Bytes.{Block, zeros, _⊕_}
 use Rattle.blocks.specs.Bits.{rearranged}
 use Rattle.blocks.proofs.Xor.{⊕-assoc, ⊕-comm, ⊕-left-comm, ⊕-self, ⊕-zero, ⊕-block, zeros-block}
 use Rattle.blocks.proofs.ByBits.{rearranged-block, rearranged-⊕}
-use Rattle.baksheesh.specs.Baksheesh.{rounds, from, subCells, permBits, constant, rotated, round, after, encrypt}
+use Rattle.baksheesh.specs.Baksheesh.{rounds, from, permBits, constant, rotated, round, after, encrypt}
 use Rattle.baksheesh.proofs.Steps.{constant-block}
-use Rattle.shares.specs.Shares.{Index, i₀, i₁, i₂, next, isFirst, Shares, Blocks, join, add, each, spread, only}
+use Rattle.shares.specs.Shares.{i₀, i₁, i₂, next, isFirst, Shares, Blocks, join, add, each, spread, only}
 use Rattle.shares.specs.Sbox.{sboxShare}
 use Rattle.shares.specs.Tape.{Reader, pairSize, callSize, masksAt}
 use Rattle.shares.specs.Call.{laneRound, shareRound, state, call, masked, roundKey}
@@ -44,7 +44,7 @@ pub join-masked : {s : Shares} {u v : List ℕ} → Blocks s → Block u → Blo
 join-masked {s} {u} {v} b p q = join-add s (spread u v) ∙ ap (λ (l : List ℕ). join s ⊕ l) (join-spread p q) ∙ ⊕-zero (join-block b)
 
 pub join-masksAt : {s : Shares} (M : Reader) (o : ℕ) → Blocks s → Reads M (o + pairSize) → join (add s (masksAt M o)) ≡ join s
-join-masksAt M o b h = join-masked b (h o (omega arith)) (h (o + 16) (omega arith))
+join-masksAt M o b h = join-masked b (h _ (omega arith)) (h _ (omega arith))
 
 -- ---- maps of blocks that XOR goes through
 

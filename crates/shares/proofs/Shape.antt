@@ -3,13 +3,13 @@ use mathlib.Core.Bool.{Bool, true, false, cond}
 use mathlib.Core.List.{List}
 use Prim.Native.Nat.{ℕ, zero, suc, _+_, _*_, _≤_}
 use native.Mathlib.Omega.{arith}
-use Rattle.blocks.specs.Bytes.{Block, zeros, _⊕_}
+use Rattle.blocks.specs.Bytes.{Block, zeros}
 use Rattle.blocks.proofs.Xor.{⊕-block, zeros-block}
 use Rattle.blocks.proofs.ByBits.{rearranged-block}
 use Rattle.baksheesh.specs.Baksheesh.{rounds, constant, rotated}
 use Rattle.baksheesh.proofs.Steps.{constant-block}
-use Rattle.shares.specs.Shares.{Index, i₀, i₁, i₂, next, isFirst, Shares, Blocks, three, join, add, each, spread, only}
-use Rattle.shares.specs.Tape.{Reader, pairSize, callSize, masksAt}
+use Rattle.shares.specs.Shares.{i₀, i₁, i₂, Shares, Blocks, three, join, add, each, spread, only}
+use Rattle.shares.specs.Tape.{Reader, pairSize, masksAt}
 use Rattle.shares.specs.Call.{laneRound, shareRound, state, call, masked, roundKey}
 
 -- a tape gives blocks below o
@@ -40,7 +40,7 @@ unfolding join
 join-block p = ⊕-block (p i₀) (⊕-block (p i₁) (p i₂))
 
 pub masksAt-blocks : (M : Reader) (o : ℕ) → Reads M (o + pairSize) → Blocks (masksAt M o)
-masksAt-blocks M o h = spread-blocks (h o (omega arith)) (h (o + 16) (omega arith))
+masksAt-blocks M o h = spread-blocks (h _ (omega arith)) (h _ (omega arith))
 
 -- ---- a round
 

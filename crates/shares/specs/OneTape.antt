@@ -1,13 +1,20 @@
--- The words of the one-tape statement: which bytes of a tape may be others, and that there is exactly one tape that
--- shows the same. Assumes nothing.
+-- The words of the statements on lanes: what a round makes of one, which bytes of a tape may be others, and that
+-- exactly one tape shows the same. Assumes nothing.
 use mathlib.Core.Path.{_≡_}
+use mathlib.Core.Bool.{Bool}
 use mathlib.Core.List.{List}
 use mathlib.Core.Logic.{_⊎_}
 use Prim.Native.Nat.{ℕ, _+_, _≤_, _<_}
 use lib.ListN.{length, getD}
 use Rattle.blocks.specs.Bytes.{Bytes}
+use Rattle.blocks.specs.Put.{part}
 use Rattle.shares.specs.Shares.{Index, i₀, i₁, i₂}
 use Rattle.shares.specs.Tape.{pairSize}
+use Rattle.shares.specs.Call.{laneRound}
+
+-- what round n + 1 makes of a share, the first one or another, from the 48 bytes of its lane alone
+abbrev pub roundOnLane : ℕ → Bool → List ℕ → List ℕ
+roundOnLane n first l = laneRound n first (part 0 16 l) (part 16 16 l) (part 32 16 l)
 
 -- one thing has P, and whatever has P is that thing
 pub record ExactlyOne {A : Type 0} (P : A → Type 0) : Type 0 where

@@ -1,0 +1,32 @@
+-- The words of the statement that opening accepts exactly the records that sealing makes. Assumes nothing.
+use mathlib.Core.Path.{_≡_}
+use mathlib.Core.List.{List, [], _∷_}
+use Prim.Native.Nat.{ℕ, _^_, _≤_, _<_}
+use lib.ListN.{length}
+use Rattle.blocks.specs.Bytes.{Bytes, Block}
+use Rattle.blocks.specs.Put.{put}
+use Rattle.answers.specs.Answer.{done}
+use Rattle.links.specs.Record.{sequenceSize, numberSize, longest}
+use Rattle.plain.specs.Plain.{plainRecord}
+use Rattle.opening.specs.declared.Receiver.{Receiver}
+use Rattle.opening.specs.Open.{openAnswer, openLink, openOutput}
+
+-- what the fields of a receiving link can hold
+pub record Formed (x : Receiver) : Type 0 where
+  pub number : x .number < 256 ^ numberSize
+  pub ke : Block (x .ke)
+  pub km : Block (x .km)
+
+-- opening the record r on the link x, with the output o, accepts: it returns the message m and the link y
+pub record Opens (x : Receiver) (r o m : List ℕ) (y : Receiver) : Type 0 where
+  pub answer : openAnswer x r (length o) ≡ done (length m ∷ [])
+  pub link : openLink x r (length o) ≡ y
+  pub out : openOutput x r o ≡ put 0 m o
+
+-- r is the record that sealing makes of the message m for the link x with the number s, above the last accepted
+pub record Sealed (x : Receiver) (r m : List ℕ) (s : ℕ) : Type 0 where
+  pub size : length m ≤ longest
+  pub bytes : Bytes m
+  pub above : x .last < s
+  pub fits : s < 256 ^ sequenceSize
+  pub made : r ≡ plainRecord (x .ke) (x .km) (x .number) s m
