@@ -1,1 +1,10 @@
-// Plain sealing, and opening.
+// Plain sealing.
+
+pub enum PlainAnswer {
+    // The length written.
+    Sealed { len: usize },
+    BadKeys,
+    ZeroSequence,
+    LongMessage,
+    ShortOutput,
+}
