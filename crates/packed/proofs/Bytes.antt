@@ -19,7 +19,7 @@ use Rattle.blocks.proofs.Xor.{bytes-cons, bytes-nil}
 use Rattle.blocks.proofs.ByBits.{rearranged-twice, rearranged-same}
 use Rattle.blocks.proofs.Parts.{tab-list}
 use Rattle.baksheesh.proofs.Steps.{at-inside}
-use Rattle.packed.specs.Packed.{unpacked, reversed, flipped, scattered}
+use Rattle.packed.specs.Packed.{unpacked, reversed, scattered}
 use Rattle.packed.proofs.Words.{packed-rearranged}
 
 -- ---- a word's bytes
@@ -37,26 +37,26 @@ four-bytes {a} {b} {c} {d} p q r s =
 pub bytes-made : (ws : List ℕ) → Bytes ws → (k : ℕ) → Made 32 ws (getD ws k 0) (down 8 0 (own k))
 bytes-made ws small k = wider (input 8 ws k (omega arith) (small k)) 32 (omega arith) (omega arith)
 
-flip-inside : (k i : ℕ) → k < 4 → i < 8 → flipped (8 * k + i) < 32
-flip-inside k i h l = omega arith
+flip-byte : (k i : ℕ) → k < 4 → i < 8 → reversed 3 (8 * k + i) / 8 ≡ k
+flip-byte = agree² 4 8 (λ k i. reversed 3 (8 * k + i) / 8) (λ k i. k) tt
 
-flip-byte : (k i : ℕ) → k < 4 → i < 8 → flipped (8 * k + i) / 8 ≡ k
-flip-byte = agree² 4 8 (λ k i. flipped (8 * k + i) / 8) (λ k i. k) tt
+flip-inside : (k i : ℕ) → k < 4 → i < 8 → reversed 3 (8 * k + i) < 32
+flip-inside k i h l = omega (arith, flip-byte k i h l)
 
-flip-bit : (k i : ℕ) → k < 4 → i < 8 → flipped (flipped (8 * k + i)) % 8 ≡ i
-flip-bit = agree² 4 8 (λ k i. flipped (flipped (8 * k + i)) % 8) (λ k i. i) tt
+flip-bit : (k i : ℕ) → k < 4 → i < 8 → reversed 3 (reversed 3 (8 * k + i)) % 8 ≡ i
+flip-bit = agree² 4 8 (λ k i. reversed 3 (reversed 3 (8 * k + i)) % 8) (λ k i. i) tt
 
 -- four bytes in a word, the first of them lowest
 pub gathers : {ws : List ℕ} {x : ℕ} {f : ℕ → List ℕ} → Made 32 ws x f → Bytes ws
-    → T (each 32 (λ i. same (f i) ((64 * (i / 8) + flipped i % 8) ∷ []) && ltb (flipped i % 8) 64))
+    → T (each 32 (λ i. same (f i) ((64 * (i / 8) + reversed 3 i % 8) ∷ []) && ltb (reversed 3 i % 8) 64))
     → scattered x ≡ getD ws 3 0 ∷ getD ws 2 0 ∷ getD ws 1 0 ∷ getD ws 0 0 ∷ []
 unfolding scattered
 gathers {ws} {x} m small t = λ i. go 3 (omega arith) i ∷ go 2 (omega arith) i ∷ go 1 (omega arith) i ∷ go 0 (omega arith) i ∷ []
   where
-    go : (k : ℕ) → k < 4 → number 8 (λ i. bit x (flipped (8 * k + i))) ≡ getD ws k 0
+    go : (k : ℕ) → k < 4 → number 8 (λ i. bit x (reversed 3 (8 * k + i))) ≡ getD ws k 0
     go k h =
         number-same 8 _ (bit (getD ws k 0)) (λ i l.
-        moved m (λ i. i / 8) (λ i. flipped i % 8) t (flipped (8 * k + i)) (flip-inside k i h l)
+        moved m (λ i. i / 8) (λ i. reversed 3 i % 8) t (reversed 3 (8 * k + i)) (flip-inside k i h l)
         ∙ ap₂ (λ (a b : ℕ). bit (getD ws a 0) b) (flip-byte k i h l) (flip-bit k i h l))
         ∙ number-bits 8 _ (small k)
 
@@ -69,13 +69,15 @@ interleave a b c d =
     ∷ getD d 2 0 ∷ getD b 2 0 ∷ getD c 2 0 ∷ getD a 2 0 ∷ getD d 3 0 ∷ getD b 3 0 ∷ getD c 3 0 ∷ getD a 3 0 ∷ []
 
 pub interleaved : (s : List ℕ)
-    → rearranged reversed (unpacked s) ≡ interleave (scattered (getD s 0 0)) (scattered (getD s 1 0)) (scattered (getD s 2 0)) (scattered (getD s 3 0))
+    → rearranged (reversed 5) (unpacked s)
+    ≡ interleave (scattered (getD s 0 0)) (scattered (getD s 1 0)) (scattered (getD s 2 0)) (scattered (getD s 3 0))
 unfolding scattered cells blockOf
-interleaved s = packed-rearranged s reversed (at-inside reversed tt)
+interleaved s = packed-rearranged s (reversed 5) (at-inside (reversed 5) tt)
 
 pub listed : (b : List ℕ) → length b ≡ 16 → tab 16 (λ i. getD b i 0) ≡ b
 listed b e = ap (λ (n : ℕ). tab n (λ i. getD b i 0)) (sym e) ∙ tab-list b
 
-pub reversed-twice : (b : List ℕ) → Block b → rearranged reversed (rearranged reversed b) ≡ b
+pub reversed-twice : (b : List ℕ) → Block b → rearranged (reversed 5) (rearranged (reversed 5) b) ≡ b
 reversed-twice b w =
-    rearranged-twice reversed reversed (λ i. i) (at-inside reversed tt) (agree 128 _ _ tt) b ∙ rearranged-same (λ i. i) b w (λ i h. refl)
+    rearranged-twice (reversed 5) (reversed 5) (λ i. i) (at-inside (reversed 5) tt) (agree 128 _ _ tt) b
+    ∙ rearranged-same (λ i. i) b w (λ i h. refl)

@@ -1,15 +1,15 @@
--- Words that hold the bits of a block in some order, shown by one test. Assumes nothing.
-use mathlib.Core.Path.{_≡_, sym, ap, ap₂, _∙_}
+-- Words that hold the bits of a block in some order, shown by a test for each word. Assumes nothing.
+use mathlib.Core.Path.{_≡_, sym, _∙_}
 use mathlib.Core.Bool.{Bool, _&&_}
 use mathlib.Core.List.{List, [], _∷_}
 use Prim.Native.Nat.{ℕ, _+_, _*_, _/_, _%_, _^_, _<_}
 use native.Mathlib.Omega.{arith}
-use lib.Dec.{T, ltb}
-use lib.ListN.{getD}
 use mir.Syntax.{w32}
 use mir.Val.{Fits}
-use Rattle.bits.proofs.Test.{and-left, and-right, each}
+use lib.Dec.{T, ltb}
+use lib.ListN.{getD}
 use Rattle.bits.specs.Swap.{swapmove}
+use Rattle.bits.proofs.Test.{each}
 use Rattle.bits.proofs.Linear.{Made, Places, own, input, equal, same, moved, swapped, swapped-places}
 use Rattle.blocks.specs.Bits.{rearranged}
 use Rattle.baksheesh.proofs.Steps.{inside, at-inside}
@@ -20,7 +20,7 @@ use Rattle.packed.proofs.Words.{words, packed-rearranged}
 pub inputs : (s : List ℕ) → ((j : ℕ) → Fits w32 (getD s j 0)) → (j : ℕ) → Made 32 s (getD s j 0) (own j)
 inputs s f j = input 32 s j (omega arith) (f j .fits)
 
--- word j of the packed form has bit p (4i + j) at its place i
+-- word j has bit p (4i + j) of the block at its place i
 abbrev holds : (ℕ → ℕ) → ℕ → Places → Bool
 holds p j f = each 32 (λ i. same (f i) ((64 * (p (4 * i + j) % 4) + p (4 * i + j) / 4) ∷ []) && ltb (p (4 * i + j) / 4) 64)
 
@@ -36,5 +36,6 @@ rearranges {s} p a b c d t t₀ t₁ t₂ t₃ =
 pub alone : {x : ℕ} → x < 2 ^ 32 → Made 32 (x ∷ []) x (own 0)
 alone {x} h = input 32 (x ∷ []) 0 (omega arith) h
 
-pub swap : {ws : List ℕ} {x y : ℕ} {f : ℕ → List ℕ} (m n : ℕ) → Made 32 ws x f → y ≡ swapmove x m n → Made 32 ws y (swapped-places m n f)
+pub swap : {ws : List ℕ} {x y : ℕ} {f : ℕ → List ℕ} (m n : ℕ) → Made 32 ws x f → y ≡ swapmove x m n
+    → Made 32 ws y (swapped-places m n f)
 swap m n a e = equal (swapped m n a) e

@@ -43,10 +43,10 @@ packed b = word b 0 ∷ word b 1 ∷ word b 2 ∷ word b 3 ∷ []
 
 pub unpacked-packed : (b : List ℕ) → Block b → unpacked (packed b) ≡ b
 unfolding packed
-unpacked-packed b w = words _ _ _ _ (λ c j. bitAt b (4 * c + j)) (holds 0) (holds 1) (holds 2) (holds 3) ∙ sym (blockOf-cells (bitAt b)) ∙ blockOf-bits b w
-  where
-    holds : (j c : ℕ) → c < 32 → bit (word b j) c ≡ bitAt b (4 * c + j)
-    holds j c h = bit-number 32 (λ c. bitAt b (4 * c + j)) c h
+unpacked-packed b w =
+    words _ _ _ _ _ (bit-number 32 _) (bit-number 32 _) (bit-number 32 _) (bit-number 32 _)
+    ∙ sym (blockOf-cells (bitAt b))
+    ∙ blockOf-bits b w
 
 -- ---- steps
 
@@ -66,7 +66,10 @@ module _ (s : List ℕ) where
   pub packed-cells : (f : ℕ → Bool → Bool → Bool → Bool → Bool)
       → eachCell f (unpacked s) ≡ cells (λ c j. f j (bit (getD s 0 0) c) (bit (getD s 1 0) c) (bit (getD s 2 0) c) (bit (getD s 3 0) c))
   unfolding eachCell
-  packed-cells f = cells-same _ _ (λ c j h _. simp (bit-unpacked s c 0 h (omega arith), bit-unpacked s c 1 h (omega arith), bit-unpacked s c 2 h (omega arith), bit-unpacked s c 3 h (omega arith)))
+  packed-cells f =
+      cells-same _ _ λ c j h _ i.
+      f j (bit-unpacked s c 0 h (omega arith) i) (bit-unpacked s c 1 h (omega arith) i)
+      (bit-unpacked s c 2 h (omega arith) i) (bit-unpacked s c 3 h (omega arith) i)
 
   -- bit j of cell c comes from word p (4c + j) % 4, bit p (4c + j) / 4
   pub packed-rearranged : (p : ℕ → ℕ) → ((i : ℕ) → i < 128 → p i < 128)

@@ -34,7 +34,7 @@ fn scatter(x: u32) -> [u8; 4]
 
 // Bits 0 and 1 of a word's number change places with bits 2 and 1 of a place in it.
 fn transpose(w: [u32; 4]) -> [u32; 4]
-    ensures { λ r. ⌜ unpacked r ≡ rearranged reversed (unpacked w) ⌝ }
+    ensures { λ r. ⌜ unpacked r ≡ rearranged (reversed 5) (unpacked w) ⌝ }
 {
     let t = ((w[0] >> 4) ^ w[1]) & 0x0f0f_0f0f;
     let u = ((w[2] >> 4) ^ w[3]) & 0x0f0f_0f0f;

@@ -1,4 +1,20 @@
 // Plain sealing.
+use packed::encrypt_words;
+use packed::form::pack;
+use packed::form::unpack;
+use packed::steps::add;
+ghost use mathlib.Core.Path.{_≡_};
+ghost use Prim.Native.Nat.{_+_, _-_, _*_, _≤_, _<_, min};
+ghost use lib.ListN.{length};
+ghost use Rattle.blocks.specs.Bytes.{_⊕_};
+ghost use Rattle.blocks.specs.Put.{part, put};
+ghost use Rattle.baksheesh.specs.Baksheesh.{encrypt};
+ghost use Rattle.packed.specs.Packed.{unpacked};
+ghost use Rattle.modes.specs.Pieces.{piece};
+ghost use Rattle.modes.specs.Cmac.{padded, subkey₁, subkey₂, lastBlock};
+ghost use Rattle.modes.specs.Chain.{chainFrom};
+ghost use Rattle.links.specs.Record.{longest, counterBlock};
+ghost use Rattle.plain.specs.Plain.{crypted, tagOf};
 
 pub enum PlainAnswer {
     // The length written.
@@ -7,4 +23,121 @@ pub enum PlainAnswer {
     ZeroSequence,
     LongMessage,
     ShortOutput,
+}
+
+// ---- CTR under KE
+
+// The output block of counter block i.
+fn key_block(key: [u32; 4], number: u32, sequence: u32, i: u32) -> [u8; 16]
+    ensures { λ r. ⌜ r ≡ encrypt (unpacked key) (counterBlock number sequence i) ⌝ }
+{
+    unpack(encrypt_words(key, pack(links::counter_block(number, sequence, i))))
+}
+
+// How many of n bytes, at most 16, stand from `from`.
+fn width(n: usize, from: usize) -> usize
+    requires { ⌜ from ≤ n ⌝ }
+    ensures { λ r. ⌜ r ≡ min 16 (n - from) ⌝ }
+{
+    if n - from < 16 {
+        return n - from;
+    }
+    16
+}
+
+// Writes block j of the text, XORed with a key block, from `at`.
+fn put_xor(text: &[u8], j: usize, key: [u8; 16], out: &mut [u8], at: usize)
+    requires { ⌜ (16 * j ≤ length (now text)) × (at + length (piece j (now text)) ≤ length (now out)) ⌝ }
+    ensures { λ _. ⌜ now (out .exit) ≡ put at (piece j (now (text .entry)) ⊕ key) (now (out .entry)) ⌝ }
+{
+    let from = 16 * j;
+    let n = width(text.len(), from);
+    let mut i = 0;
+    while i < n {
+        out[at + i] = text[from + i] ^ key[i];
+        i += 1;
+    }
+}
+
+// Writes the ciphertext of a message, or the message of a ciphertext, from `at`.
+pub fn crypt(ke: [u8; 16], number: u32, sequence: u32, text: &[u8], out: &mut [u8], at: usize)
+    requires { ⌜ (at + length (now text) ≤ length (now out)) × (length (now text) ≤ longest) ⌝ }
+    ensures { λ _. ⌜ now (out .exit) ≡ put at (crypted ke number sequence (now (text .entry))) (now (out .entry)) ⌝ }
+{
+    let key = pack(ke);
+    let count = (text.len() + 15) / 16;
+    for j in 0..count {
+        let block = key_block(key, number, sequence, j as u32);
+        put_xor(text, j, block, out, at + 16 * j);
+    }
+}
+
+// ---- CMAC under KM
+
+fn first_subkey(key: [u32; 4]) -> [u8; 16]
+    ensures { λ r. ⌜ r ≡ subkey₁ (encrypt (unpacked key)) ⌝ }
+{
+    modes::double(unpack(encrypt_words(key, pack([0; 16]))))
+}
+
+fn second_subkey(key: [u32; 4]) -> [u8; 16]
+    ensures { λ r. ⌜ r ≡ subkey₂ (encrypt (unpacked key)) ⌝ }
+{
+    modes::double(first_subkey(key))
+}
+
+// The bytes from `at` to the text's end, padded.
+fn padded_at(text: &[u8], at: usize) -> [u8; 16]
+    requires { ⌜ (at ≤ length (now text)) × (length (now text) < at + 16) ⌝ }
+    ensures { λ r. ⌜ r ≡ padded (part at 16 (now (text .entry))) ⌝ }
+{
+    let n = text.len() - at;
+    let mut block = [0u8; 16];
+    let mut i = 0;
+    while i < n {
+        block[i] = text[at + i];
+        i += 1;
+    }
+    block[n] = 0x80;
+    block
+}
+
+// The text's last block, number j, with its subkey.
+fn last_block(key: [u32; 4], text: &[u8], j: usize) -> [u32; 4]
+    requires { ⌜ (16 * j ≤ length (now text)) × (length (now text) ≤ 16 * j + 16) ⌝ }
+    ensures { λ r. ⌜ unpacked r ≡ lastBlock (encrypt (unpacked key)) (piece j (now (text .entry))) ⌝ }
+{
+    let at = 16 * j;
+    if text.len() - at < 16 {
+        return add(pack(second_subkey(key)), pack(padded_at(text, at)));
+    }
+    add(pack(first_subkey(key)), pack(blocks::block_at(text, at)))
+}
+
+// The chain from `first` over the text's first n blocks.
+fn chained(key: [u32; 4], first: [u32; 4], text: &[u8], n: usize) -> [u32; 4]
+    requires { ⌜ 16 * n ≤ length (now text) ⌝ }
+    ensures { λ r. ⌜ unpacked r ≡ chainFrom (encrypt (unpacked key)) (unpacked first) (now (text .entry)) n ⌝ }
+{
+    let mut chain = first;
+    for j in 0..n {
+        let next = encrypt_words(key, add(chain, pack(blocks::block_at(text, 16 * j))));
+        chain = next;
+    }
+    chain
+}
+
+// The tag of a ciphertext.
+pub fn tag(km: [u8; 16], number: u32, sequence: u32, text: &[u8]) -> [u8; 16]
+    requires { ⌜ length (now text) ≤ longest ⌝ }
+    ensures { λ r. ⌜ r ≡ tagOf km number sequence (now (text .entry)) ⌝ }
+{
+    let key = pack(km);
+    let front = pack(links::counter_block(number, sequence, 0));
+    if text.len() == 0 {
+        return unpack(encrypt_words(key, add(pack(first_subkey(key)), front)));
+    }
+    let k = (text.len() - 1) / 16;
+    let chain = chained(key, encrypt_words(key, front), text, k);
+    unpack(encrypt_words(key, add(chain, last_block(key, text, k))))
 }

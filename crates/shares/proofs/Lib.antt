@@ -6,3 +6,5 @@ pub mod Tape
 pub mod Probe
 pub mod MaskedCall
 pub mod Lane
+pub mod Packed
+pub mod Onward

@@ -3,3 +3,4 @@ pub mod Sbox
 pub mod Tape
 pub mod Call
 pub mod OneTape
+pub mod Packed

@@ -1,1 +1,216 @@
-// BAKSHEESH on three XOR shares.
+// BAKSHEESH on three XOR shares in packed form.
+use packed::form::pack;
+use packed::steps::add;
+use packed::steps::add_constants;
+use packed::steps::perm_bits;
+use packed::steps::rotate;
+ghost use mathlib.Core.Path.{_≡_};
+ghost use mathlib.Core.Bool.{cond};
+ghost use Prim.Native.Nat.{_+_, _-_, _*_, _≤_, _<_};
+ghost use lib.ListN.{length};
+ghost use Rattle.baksheesh.specs.Baksheesh.{rounds, rotated};
+ghost use Rattle.packed.specs.Packed.{unpacked};
+ghost use Rattle.shares.specs.Shares.{spread, each, add as addShares};
+ghost use Rattle.shares.specs.Sbox.{sboxShare};
+ghost use Rattle.shares.specs.Tape.{at, pairSize, callSize};
+ghost use Rattle.shares.specs.Call.{laneRound, shareRound};
+ghost use Rattle.shares.specs.Packed.{sharesOf, Onward, Calls};
+
+// Three shares of a block, each in packed form.
+pub struct Triple {
+    pub a: [u32; 4],
+    pub b: [u32; 4],
+    pub c: [u32; 4],
+}
+
+// A word of ones, or of zeros.
+fn ones_if(one: bool) -> u32
+    ensures { λ r. ⌜ r ≡ cond one 0xffff_ffff 0 ⌝ }
+{
+    if one { 0xffff_ffff } else { 0 }
+}
+
+// The S-box's output share from the next share a and the one after it, b.
+fn sbox_share(first: bool, a: [u32; 4], b: [u32; 4]) -> [u32; 4]
+    ensures { λ r. ⌜ unpacked r ≡ sboxShare first (unpacked a) (unpacked b) ⌝ }
+{
+    let one = ones_if(first);
+    let a0 = a[0];
+    let a1 = a[1];
+    let a2 = a[2];
+    let a3 = a[3];
+    let b0 = b[0];
+    let b1 = b[1];
+    let b2 = b[2];
+    let p01 = (a0 & a1) ^ (a0 & b1) ^ (b0 & a1);
+    let p02 = (a0 & a2) ^ (a0 & b2) ^ (b0 & a2);
+    let p12 = (a1 & a2) ^ (a1 & b2) ^ (b1 & a2);
+    [
+        p02 ^ a0 ^ a1 ^ a3 ^ one,
+        a0 ^ p12 ^ a3 ^ one,
+        p02 ^ p12 ^ a1 ^ a3,
+        p01 ^ p02 ^ a2 ^ a3,
+    ]
+}
+
+// What a round makes of a share, from its lane alone.
+fn lane_round(first: bool, a: [u32; 4], b: [u32; 4], k: [u32; 4], n: usize) -> [u32; 4]
+    requires { ⌜ n < rounds ⌝ }
+    ensures { λ r. ⌜ unpacked r ≡ laneRound n first (unpacked a) (unpacked b) (unpacked k) ⌝ }
+{
+    let s = perm_bits(sbox_share(first, a, b));
+    if first {
+        add(add_constants(s, n), k)
+    } else {
+        add(s, k)
+    }
+}
+
+fn share_round(s: Triple, k: Triple, n: usize) -> Triple
+    requires { ⌜ n < rounds ⌝ }
+    ensures { λ r. ⌜ sharesOf r ≡ shareRound n (sharesOf s) (sharesOf k) ⌝ }
+{
+    let s0 = s.a;
+    let s1 = s.b;
+    let s2 = s.c;
+    let k0 = k.a;
+    let k1 = k.b;
+    let k2 = k.c;
+    Triple {
+        a: lane_round(true, s1, s2, k0, n),
+        b: lane_round(false, s2, s0, k1, n),
+        c: lane_round(false, s0, s1, k2, n),
+    }
+}
+
+// The masks u, v and u XOR v, one into each share.
+fn mask(s: Triple, u: [u32; 4], v: [u32; 4]) -> Triple
+    ensures { λ r. ⌜ sharesOf r ≡ addShares (sharesOf s) (spread (unpacked u) (unpacked v)) ⌝ }
+{
+    let a = s.a;
+    let b = s.b;
+    let c = s.c;
+    Triple {
+        a: add(a, u),
+        b: add(b, v),
+        c: add(c, add(u, v)),
+    }
+}
+
+// Share by share.
+pub fn add_shares(s: Triple, t: Triple) -> Triple
+    ensures { λ r. ⌜ sharesOf r ≡ addShares (sharesOf s) (sharesOf t) ⌝ }
+{
+    let s0 = s.a;
+    let s1 = s.b;
+    let s2 = s.c;
+    let t0 = t.a;
+    let t1 = t.b;
+    let t2 = t.c;
+    Triple {
+        a: add(s0, t0),
+        b: add(s1, t1),
+        c: add(s2, t2),
+    }
+}
+
+// Each key share, rotated right by one.
+fn rotate_shares(k: Triple) -> Triple
+    ensures { λ r. ⌜ sharesOf r ≡ each (rotated 1) (sharesOf k) ⌝ }
+{
+    let a = k.a;
+    let b = k.b;
+    let c = k.c;
+    Triple {
+        a: rotate(a),
+        b: rotate(b),
+        c: rotate(c),
+    }
+}
+
+// A pair of masks, and the count of tape bytes read with it.
+pub struct Pair {
+    pub u: [u32; 4],
+    pub v: [u32; 4],
+    pub used: usize,
+}
+
+// The next pair of masks.
+pub fn draw(tape: &[u8], used: usize) -> Pair
+    requires { ⌜ used + pairSize ≤ length (now tape) ⌝ }
+    ensures { λ r. ⌜ (unpacked (r .u) ≡ at (now (tape .entry)) used) × (unpacked (r .v) ≡ at (now (tape .entry)) (used + 16)) × (r .used ≡ used + pairSize) ⌝ }
+{
+    let u = pack(blocks::block_at(tape, used));
+    let v = pack(blocks::block_at(tape, used + 16));
+    Pair {
+        u,
+        v,
+        used: used + 32,
+    }
+}
+
+// Where some rounds have led: the state's shares, the key's as last added, and the count of tape bytes read.
+pub struct Run {
+    pub state: Triple,
+    pub key: Triple,
+    pub used: usize,
+}
+
+// The rounds after the first `from`, up to the round numbered `to`.
+fn run_rounds(s: Triple, k: Triple, tape: &[u8], used: usize, from: usize, to: usize) -> Run
+    requires { ⌜ (from ≤ to) × (to ≤ rounds) × (used + pairSize * (to - from) ≤ length (now tape)) ⌝ }
+    ensures { λ r. ⌜ Onward (at (now (tape .entry))) used from (sharesOf s) (sharesOf k) (to - from) r ⌝ }
+{
+    let mut state = s;
+    let mut key = k;
+    let mut read = used;
+    let mut n = from;
+    while n < to {
+        let pair = draw(tape, read);
+        let u = pair.u;
+        let v = pair.v;
+        let turned = rotate_shares(key);
+        let next = share_round(mask(state, u, v), turned, n);
+        state = next;
+        key = turned;
+        read = pair.used;
+        n += 1;
+    }
+    Run {
+        state,
+        key,
+        used: read,
+    }
+}
+
+// A call's output, and what one of its rounds shows: the state's shares just after the masks, and the shares of the key that it adds.
+pub struct Called {
+    pub out: Triple,
+    pub state: Triple,
+    pub key: Triple,
+    pub used: usize,
+}
+
+// A call of key shares and input shares, with the masks from `used` on; it shows the round numbered `n`.
+pub fn call(key: Triple, input: Triple, tape: &[u8], used: usize, n: usize) -> Called
+    requires { ⌜ (1 ≤ n) × (n ≤ rounds) × (used + callSize ≤ length (now tape)) ⌝ }
+    ensures { λ r. ⌜ Calls (sharesOf key) (sharesOf input) (at (now (tape .entry))) used n r ⌝ }
+{
+    let before = run_rounds(add_shares(input, key), key, tape, used, 0, n - 1);
+    let entering = before.state;
+    let last = before.key;
+    let pair = draw(tape, before.used);
+    let u = pair.u;
+    let v = pair.v;
+    let state = mask(entering, u, v);
+    let turned = rotate_shares(last);
+    let next = share_round(state, turned, n - 1);
+    let after = run_rounds(next, turned, tape, pair.used, n, 35);
+    let out = after.state;
+    Called {
+        out,
+        state,
+        key: turned,
+        used: after.used,
+    }
+}

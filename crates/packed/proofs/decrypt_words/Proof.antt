@@ -1,4 +1,5 @@
--- `decrypt_words` meets its contract. With n rounds left, the key is rotated by n, and what lies n rounds back is what lay all rounds back. Assumes nothing.
+-- `decrypt_words` meets its contract. With n rounds left, the key is rotated by n, and what lies n rounds back
+-- is what lay all rounds back. Assumes nothing.
 use borrow.Author.Needs.{needs}
 use mathlib.Core.Path.{_≡_, refl, sym, ap, _∙_}
 use mathlib.Core.List.{List}
@@ -12,7 +13,8 @@ use Rattle.packed.proofs.decrypt_words.Tie as tie
 
 abbrev Inv-loop : tie.InvT-loop
 Inv-loop key k₀ s₀ n₀ k s n =
-    (n ≤ rounds) × (unpacked k ≡ rotated n (unpacked key)) × (before n (unpacked key) (unpacked s) ≡ before rounds (unpacked key) (unpacked s₀))
+    (n ≤ rounds) × (unpacked k ≡ rotated n (unpacked key))
+    × (before n (unpacked key) (unpacked s) ≡ before rounds (unpacked key) (unpacked s₀))
 
 abbrev μ-loop : tie.MeasureT-loop
 μ-loop key k₀ s₀ n₀ k s n = n

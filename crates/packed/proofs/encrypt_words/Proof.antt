@@ -45,8 +45,9 @@ returns : tie.Need-returns Inv-loop μ-loop
 unfolding encrypt
 returns c =
     let h = c .before in
+    let x = h .before in
     let n : h .loop .n ≡ rounds = omega arith in
-    cc (key-back _ _ (h .before .before .rotate .ensures))
+    h .loop .inv .2 ∙ λ i. after (n i) (key-back _ _ (x .before .rotate .ensures) i) (x .add .ensures i)
 
 pub encrypt-words-spec : {M : Type 1} → statement M
 encrypt-words-spec =

@@ -1,7 +1,6 @@
 -- `pack` meets its contract: its words hold the block's bytes, and the transposition sets each bit right. Assumes nothing.
 use borrow.Author.Needs.{needs}
 use mathlib.Core.Path.{_∙_}
-use mathlib.Core.List.{List, [], _∷_}
 use Rattle.blocks.specs.Put.{tab}
 use Rattle.packed.proofs.Bytes.{interleave, interleaved, listed}
 use Rattle.packed.proofs.form.pack.Statement.{statement}
@@ -18,7 +17,7 @@ returns c =
     c .transpose .ensures
     ∙ interleaved _
     ∙ (λ i. interleave (c₁ .gather .ensures i) (c₂ .gather2 .ensures i) (c₃ .gather3 .ensures i) (c₄ .gather4 .ensures i))
-    ∙ listed (start .args .t1) (start .good .0 .1 .0 .1)
+    ∙ listed (start .args .t1) (search needs)
 
 pub pack-spec : {M : Type 1} → statement M
 pack-spec =

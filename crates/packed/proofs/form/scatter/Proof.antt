@@ -5,7 +5,7 @@ use mathlib.Core.List.{[], _∷_}
 use Prim.Native.Nat.{_+_}
 use native.Mathlib.Omega.{arith}
 use Rattle.bits.proofs.Linear.{moved}
-use Rattle.packed.specs.Packed.{flipped, scattered}
+use Rattle.packed.specs.Packed.{reversed, scattered}
 use Rattle.packed.proofs.Moves.{alone, swap}
 use Rattle.packed.proofs.Bytes.{byte-at}
 use Rattle.packed.proofs.form.scatter.Statement.{statement}
@@ -18,7 +18,7 @@ returns c =
     let c₂ = c₃ .before in
     let c₁ = c₂ .before in
     let y = c₁ .before in
-    let flips = moved (swap _ _ (alone (y .before .fits .x .fits)) (y .swapmove .ensures)) (λ _. 0) flipped tt in
+    let flips = moved (swap _ _ (alone (y .before .fits .x .fits)) (y .swapmove .ensures)) (λ _. 0) (reversed 3) tt in
     λ i.
     (c₁ .byte .ensures ∙ byte-at _ 24 _ (λ j h. flips (24 + j) (omega arith))) i
     ∷ (c₂ .byte2 .ensures ∙ byte-at _ 16 _ (λ j h. flips (16 + j) (omega arith))) i

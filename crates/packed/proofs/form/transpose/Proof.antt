@@ -1,4 +1,4 @@
--- `transpose` meets its contract: one test of where each bit of each word comes from. Assumes nothing.
+-- `transpose` meets its contract: a test for each word of where its bits come from. Assumes nothing.
 use borrow.Author.Needs.{needs}
 use Rattle.bits.proofs.Linear.{xored, masked, shl, shr}
 use Rattle.packed.proofs.Moves.{inputs, rearranges}

@@ -15,7 +15,7 @@ returns c =
     let c₁ = c₂ .before in
     (λ i. interleave (c₁ .scatter .ensures i) (c₂ .scatter2 .ensures i) (c₃ .scatter3 .ensures i) (c .scatter4 .ensures i))
     ∙ sym (interleaved _)
-    ∙ ap (rearranged reversed) (c₁ .before .transpose .ensures)
+    ∙ ap (rearranged (reversed 5)) (c₁ .before .transpose .ensures)
     ∙ reversed-twice _ (unpacked-block _)
 
 pub unpack-spec : {M : Type 1} → statement M

@@ -1,4 +1,4 @@
--- `add_constants` meets its contract: one test of the table and the masks. Assumes nothing.
+-- `add_constants` meets its contract: its table is the constants', and a test for each mask. Assumes nothing.
 use borrow.Author.Needs.{needs}
 use Rattle.bits.specs.Bit.{bit}
 use Rattle.packed.proofs.Constants.{adds-constant}

@@ -1,4 +1,4 @@
--- `perm_bits` meets its contract: one test of where each bit of each word comes from. Assumes nothing.
+-- `perm_bits` meets its contract: a test for each word of where its bits come from. Assumes nothing.
 use borrow.Author.Needs.{needs}
 use Rattle.bits.proofs.Linear.{xored, shl, shr, through}
 use Rattle.packed.proofs.Moves.{inputs, rearranges}

@@ -1,4 +1,4 @@
--- `rotate` meets its contract: one test of where each bit of each word comes from. Assumes nothing.
+-- `rotate` meets its contract: a test for each word of where its bits come from. Assumes nothing.
 use borrow.Author.Needs.{needs}
 use Rattle.bits.proofs.Linear.{xored, shl, shr}
 use Rattle.packed.proofs.Moves.{inputs, rearranges}

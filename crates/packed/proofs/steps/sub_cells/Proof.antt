@@ -2,7 +2,7 @@
 -- Assumes nothing.
 use borrow.Author.Needs.{needs}
 use mathlib.Core.Path.{sym, _∙_}
-use mathlib.Core.Bool.{Bool, true, _&&_}
+use mathlib.Core.Bool.{Bool, _&&_}
 use Prim.Native.Nat.{ℕ}
 use lib.ListN.{getD}
 use Rattle.bits.specs.Bit.{bit, _⊻_}
@@ -16,11 +16,13 @@ use Rattle.packed.proofs.steps.sub_cells.Tie as tie
 returns : tie.Need-returns
 returns c =
     let x : ℕ → ℕ → Bool = λ j i. bit (getD (c .args .t1) j 0) i in
+    let bit0 = four-bits (λ a b c d. sbox 1 a b c d ⊻ ((a && c) ⊻ (b && c) ⊻ b)) (sbox 0) tt in
+    let bit3 = four-bits (λ a b c d. (a && (b ⊻ c)) ⊻ c ⊻ d) (sbox 3) tt in
     words _ _ _ _ _
-    (λ i h. simp (bit-xor, bit-and, ones) (four-bits (λ a b c d. a ⊻ (b && c) ⊻ d ⊻ true ⊻ ((a && c) ⊻ (b && c) ⊻ b)) (sbox 0) tt (x 0 i) (x 1 i) (x 2 i) (x 3 i)))
+    (λ i h. simp (bit-xor, bit-and, ones) (bit0 (x 0 i) (x 1 i) (x 2 i) (x 3 i)))
     (λ i h. simp (bit-xor, bit-and, ones))
     (λ i h. simp (bit-xor, bit-and))
-    (λ i h. simp (bit-xor, bit-and) (four-bits (λ a b c d. (a && (b ⊻ c)) ⊻ c ⊻ d) (sbox 3) tt (x 0 i) (x 1 i) (x 2 i) (x 3 i)))
+    (λ i h. simp (bit-xor, bit-and) (bit3 (x 0 i) (x 1 i) (x 2 i) (x 3 i)))
     ∙ sym (packed-cells (c .args .t1) sbox)
 
 pub sub-cells-spec : {M : Type 1} → statement M

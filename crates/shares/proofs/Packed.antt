@@ -1,0 +1,61 @@
+-- Shares in packed form: the shared S-box by words, and steps share by share. Assumes nothing.
+use mathlib.Core.Path.{_≡_, refl, sym, ap, _∙_, fun-ext}
+use mathlib.Core.Bool.{Bool, true, false, cond}
+use mathlib.Core.List.{List}
+use Prim.Native.Nat.{ℕ, _+_, _*_, _<_}
+use native.Mathlib.Omega.{arith}
+use lib.ListN.{getD}
+use Rattle.bits.specs.Bit.{bit}
+use Rattle.bits.proofs.Laws.{bit-zero}
+use Rattle.bits.proofs.Test.{four}
+use Rattle.blocks.specs.Bytes.{_⊕_, zeros}
+use Rattle.blocks.specs.Bits.{bitAt, cells}
+use Rattle.blocks.proofs.Xor.{⊕-zero}
+use Rattle.blocks.proofs.ByBits.{cells-same, rearranged-block}
+use Rattle.baksheesh.specs.Baksheesh.{from, permBits, constant}
+use Rattle.packed.specs.Packed.{unpacked}
+use Rattle.packed.proofs.Words.{bit-unpacked, ones}
+use Rattle.shares.specs.Shares.{Index, i₀, i₁, i₂, Shares, three}
+use Rattle.shares.specs.Sbox.{shareBit, sboxShare}
+use Rattle.shares.specs.Call.{laneRound}
+
+pub ones-if : (one : Bool) (i : ℕ) → i < 32 → bit (cond one 0xffff_ffff 0) i ≡ one
+ones-if true i h = ones i h
+ones-if false i h = bit-zero i
+
+pub packed-share : (first : Bool) (a b : List ℕ)
+    → sboxShare first (unpacked a) (unpacked b) ≡ cells (λ c j. shareBit first j (λ e. bit (getD a e 0) c) (λ e. bit (getD b e 0) c))
+unfolding sboxShare
+packed-share first a b =
+    cells-same _ _ λ c j h l.
+    let x : (s : List ℕ) (e : ℕ) → e < 4 → bitAt (unpacked s) (4 * c + e) ≡ bit (getD s e 0) c = λ s e k. bit-unpacked s c e h k in
+    let a₀ = x a 0 (omega arith) in
+    let a₁ = x a 1 (omega arith) in
+    let a₂ = x a 2 (omega arith) in
+    let a₃ = x a 3 (omega arith) in
+    let b₀ = x b 0 (omega arith) in
+    let b₁ = x b 1 (omega arith) in
+    let b₂ = x b 2 (omega arith) in
+    four (λ j. shareBit first j (λ e. bitAt (unpacked a) (4 * c + e)) (λ e. bitAt (unpacked b) (4 * c + e)) ≡ shareBit first j (λ e. bit (getD a e 0) c) (λ e. bit (getD b e 0) c))
+    (simp (a₀, a₁, a₂, a₃, b₀, b₂)) (simp (a₀, a₁, a₂, a₃, b₁, b₂)) (simp (a₀, a₁, a₂, a₃, b₀, b₁, b₂)) (simp (a₀, a₁, a₂, a₃, b₀, b₁, b₂)) j l
+
+-- a round of a lane by its steps, for the first share and for another
+module _ (n : ℕ) (f : Bool) (a b k s r : List ℕ) (moved : s ≡ permBits (sboxShare f a b)) where
+  pub lane-first : f ≡ true → r ≡ (s ⊕ constant n) ⊕ k → r ≡ laneRound n f a b k
+  unfolding laneRound
+  lane-first t e = e ∙ λ i. (moved i ⊕ cond (sym t i) (constant n) zeros) ⊕ k
+
+  pub lane-other : f ≡ false → r ≡ s ⊕ k → r ≡ laneRound n f a b k
+  unfolding laneRound
+  lane-other t e =
+      e ∙ ap (λ (z : List ℕ). z ⊕ k) (moved ∙ sym (⊕-zero (rearranged-block from (sboxShare f a b))))
+      ∙ ap (λ (z : Bool). (permBits (sboxShare f a b) ⊕ cond z (constant n) zeros) ⊕ k) (sym t)
+
+-- two triples of shares are the same if each share is
+pub shares-same : {s t : Shares} → s i₀ ≡ t i₀ → s i₁ ≡ t i₁ → s i₂ ≡ t i₂ → s ≡ t
+shares-same {s} {t} p q r = fun-ext go
+  where
+    go : (i : Index) → s i ≡ t i
+    go i₀ = p
+    go i₁ = q
+    go i₂ = r

@@ -1,0 +1,37 @@
+-- Three shares in packed form, and what the rounds on them do. Assumes nothing.
+use mathlib.Core.Path.{_≡_}
+use Prim.Native.Nat.{ℕ, zero, suc, _+_, _-_, _*_}
+use Rattle.baksheesh.specs.Baksheesh.{rotated}
+use Rattle.packed.specs.Packed.{unpacked}
+use Rattle.shares.specs.declared.Triple.{Triple}
+use Rattle.shares.specs.declared.Run.{Run}
+use Rattle.shares.specs.declared.Called.{Called}
+use Rattle.shares.specs.Shares.{Shares, three, add, each}
+use Rattle.shares.specs.Tape.{Reader, pairSize, callSize, masksAt}
+use Rattle.shares.specs.Call.{shareRound, call, masked, roundKey}
+
+-- the shares that three packed blocks say
+abbrev pub sharesOf : Triple → Shares
+sharesOf s = three (unpacked (s .a)) (unpacked (s .b)) (unpacked (s .c))
+
+-- ---- some rounds, from the shares s on entering round n + 1 and the key's shares k as round n added them; masks from o on
+
+module _ (M : Reader) (o n : ℕ) (s k : Shares) where
+  -- the shares c rounds later
+  unfoldable pub onward : ℕ → Shares
+  onward zero = s
+  onward (suc c) = shareRound (n + c) (add (onward c) (masksAt M (o + pairSize * c))) (each (rotated (suc c)) k)
+
+  -- r is where c rounds lead
+  pub record Onward (c : ℕ) (r : Run) : Type 0 where
+    pub state : sharesOf (r .state) ≡ onward c
+    pub key : sharesOf (r .key) ≡ each (rotated c) k
+    pub used : r .used ≡ o + pairSize * c
+
+-- ---- a whole call of key shares k and input shares x: its output, and what its round numbered n shows
+
+pub record Calls (k x : Shares) (M : Reader) (o n : ℕ) (r : Called) : Type 0 where
+  pub out : sharesOf (r .out) ≡ call k x M o
+  pub state : sharesOf (r .state) ≡ masked k x M o (n - 1)
+  pub key : sharesOf (r .key) ≡ roundKey k x M o (n - 1)
+  pub used : r .used ≡ o + callSize

@@ -1,0 +1,4 @@
+pub mod Bytewise
+pub mod Lookup
+pub mod Moved
+pub mod Rotated
