@@ -2,3 +2,5 @@ pub mod Sealed
 pub mod Written
 pub mod Crypting
 pub mod Tagging
+pub mod Fields
+pub mod Answers

@@ -13,8 +13,9 @@ ghost use Rattle.packed.specs.Packed.{unpacked};
 ghost use Rattle.modes.specs.Pieces.{piece};
 ghost use Rattle.modes.specs.Cmac.{padded, subkey₁, subkey₂, lastBlock};
 ghost use Rattle.modes.specs.Chain.{chainFrom};
-ghost use Rattle.links.specs.Record.{longest, counterBlock};
-ghost use Rattle.plain.specs.Plain.{crypted, tagOf};
+ghost use Rattle.links.specs.Record.{longest, recordSize, counterBlock};
+ghost use Rattle.plain.specs.Plain.{crypted, tagOf, plainRecord};
+ghost use Rattle.plain.specs.Entry.{plainSays, plainAnswer, plainOutput};
 
 pub enum PlainAnswer {
     // The length written.
@@ -140,4 +141,50 @@ pub fn tag(km: [u8; 16], number: u32, sequence: u32, text: &[u8]) -> [u8; 16]
     let k = (text.len() - 1) / 16;
     let chain = chained(key, encrypt_words(key, front), text, k);
     unpack(encrypt_words(key, add(chain, last_block(key, text, k))))
+}
+
+// ---- sealing
+
+// Writes the record of a message from the output's start.
+fn put_record(
+    ke: [u8; 16],
+    km: [u8; 16],
+    number: u32,
+    sequence: u32,
+    message: &[u8],
+    out: &mut [u8],
+)
+    requires { ⌜ (length (now message) ≤ longest) × (recordSize (length (now message)) ≤ length (now out)) ⌝ }
+    ensures { λ _. ⌜ now (out .exit) ≡ put 0 (plainRecord ke km number sequence (now (message .entry))) (now (out .entry)) ⌝ }
+{
+    let end = message.len() + 8;
+    blocks::put_number(out, 0, number);
+    blocks::put_number(out, 4, sequence);
+    crypt(ke, number, sequence, message, out, 8);
+    let code = tag(km, number, sequence, &out[8..end]);
+    blocks::put_bytes(&code, out, end);
+}
+
+// Seals a message, under keys of 32 bytes: KE, then KM.
+pub fn seal(keys: &[u8], number: u32, sequence: u32, message: &[u8], out: &mut [u8]) -> PlainAnswer
+    ensures { λ r. ⌜ plainSays r ≡ plainAnswer (now (keys .entry)) sequence (now (message .entry)) (length (now (out .entry))) ⌝ }
+    ensures { λ r. ⌜ now (out .exit) ≡ plainOutput (now (keys .entry)) number sequence (now (message .entry)) (now (out .entry)) ⌝ }
+{
+    if keys.len() != 32 {
+        return PlainAnswer::BadKeys;
+    }
+    if sequence == 0 {
+        return PlainAnswer::ZeroSequence;
+    }
+    if 256 < message.len() {
+        return PlainAnswer::LongMessage;
+    }
+    let len = message.len() + 24;
+    if out.len() < len {
+        return PlainAnswer::ShortOutput;
+    }
+    let ke = blocks::block_at(keys, 0);
+    let km = blocks::block_at(keys, 16);
+    put_record(ke, km, number, sequence, message, out);
+    PlainAnswer::Sealed { len }
 }
