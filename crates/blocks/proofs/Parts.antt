@@ -103,6 +103,15 @@ fill-done at i n f o out e d = e ∙ ap (λ (k : ℕ). put at (tab k f) o) d
 pub put-whole : (xs o : List ℕ) → length xs ≡ length o → put 0 xs o ≡ xs
 put-whole xs o e = put-start xs o ∙ ap (λ (k : ℕ). xs ++ drop k o) e ∙ ap (λ (z : List ℕ). xs ++ z) (drop-length o) ∙ append-nil xs
 
+-- three parts written over a whole list
+pub put-three : (x y z o : List ℕ) (m n : ℕ) → m ≡ length x → n ≡ length x + length y → length x + length y + length z ≡ length o
+    → put n z (put m y (put 0 x o)) ≡ x ++ (y ++ z)
+put-three x y z o m n em en e =
+    ap (put n z) (put-put 0 x y o m (omega arith) (omega arith))
+    ∙ put-put 0 (x ++ y) z o n (simp length-append (omega arith)) (simp length-append (omega arith))
+    ∙ put-whole ((x ++ y) ++ z) o (simp length-append e)
+    ∙ append-assoc x y z
+
 -- a loop that writes a whole list from its start
 pub all-none : (f : ℕ → ℕ) (o : List ℕ) → o ≡ put 0 (tab 0 f) o
 all-none = fill-none 0

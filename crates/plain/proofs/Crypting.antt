@@ -10,7 +10,7 @@ use Rattle.blocks.proofs.Parts.{put-none, put-length, put-put}
 use Rattle.baksheesh.specs.Baksheesh.{encrypt}
 use Rattle.baksheesh.proofs.Inverse.{encrypt-block}
 use Rattle.modes.specs.Pieces.{blockCount, piece}
-use Rattle.modes.specs.Ctr.{ctrPiece, ctrTo}
+use Rattle.modes.specs.Ctr.{ctrTo}
 use Rattle.modes.proofs.Ctr.{ctrPiece-⊕, ctrTo-zero, ctrTo-more, ctrTo-length, ctrTo-whole, ctrTo-all}
 use Rattle.links.specs.Record.{counterBlock}
 use Rattle.links.proofs.Record.{counter-block}

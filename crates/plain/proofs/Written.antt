@@ -1,9 +1,9 @@
 -- A block XORed byte by byte, and a short block padded where it stands. Assumes nothing.
-use mathlib.Core.Path.{_≡_, refl, sym, ap, ap₂, _∙_}
+use mathlib.Core.Path.{_≡_, refl, sym, ap, _∙_}
 use mathlib.Core.List.{List, [], _∷_, _++_, append-assoc}
 use Prim.Native.Nat.{ℕ, zero, suc, _+_, _-_, _≤_, _<_}
 use native.Mathlib.Omega.{arith}
-use lib.ListN.{length, take, drop, getD, set, replicate, length-append, length-take, length-drop, length-replicate, replicate-append-replicate}
+use lib.ListN.{length, drop, getD, set, replicate, length-append, length-take, length-drop, length-replicate, replicate-append-replicate}
 use lib.Seq.{getD-take, getD-drop, take-all, drop-at}
 use lib.Bits.{bitXor}
 use Rattle.blocks.specs.Bytes.{_⊕_}

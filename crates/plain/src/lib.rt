@@ -1,4 +1,4 @@
-// Plain sealing.
+// Plain sealing: CTR under KE, CMAC under KM, and the record of a message.
 use packed::encrypt_words;
 use packed::form::pack;
 use packed::form::unpack;

@@ -10,7 +10,7 @@ use Rattle.baksheesh.specs.Baksheesh.{rounds}
 use Rattle.modes.specs.Pieces.{blockCount}
 use Rattle.links.specs.Record.{longest, recordSize}
 use Rattle.links.specs.declared.Sender.{Sender}
-use Rattle.shares.specs.Shares.{Index, i₀, i₁, i₂, Shares}
+use Rattle.shares.specs.Shares.{Index, i₀, i₁, i₂, flat}
 use Rattle.shares.specs.Tape.{at}
 use Rattle.sealing.specs.declared.SealAnswer.{SealAnswer}
 use Rattle.sealing.specs.declared.SealAnswer.the-variants as Seal
@@ -51,10 +51,6 @@ advanced x = record { keyed = x .keyed; number = x .number; last = x .last + 1; 
 
 abbrev pub sealLink : Sender → List ℕ → List ℕ → ℕ → Sender
 sealLink x m t o = ifDone (sealAnswer x m t o) (advanced x) x
-
--- three shares, one behind the other
-abbrev pub flat : Shares → List ℕ
-flat s = s i₀ ++ (s i₁ ++ s i₂)
 
 abbrev pub sealShares : Sender → List ℕ → List ℕ → ℕ → List ℕ
 sealShares x m t o = ifDone (sealAnswer x m t o) (flat (tagShares x m (at t))) (replicate 48 0)

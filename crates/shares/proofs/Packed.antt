@@ -1,7 +1,7 @@
 -- Shares in packed form: the shared S-box by words, and steps share by share. Assumes nothing.
 use mathlib.Core.Path.{_≡_, refl, sym, ap, _∙_, fun-ext}
 use mathlib.Core.Bool.{Bool, true, false, cond}
-use mathlib.Core.List.{List}
+use mathlib.Core.List.{List, [], _∷_}
 use Prim.Native.Nat.{ℕ, _+_, _*_, _<_}
 use native.Mathlib.Omega.{arith}
 use lib.ListN.{getD}
@@ -9,7 +9,7 @@ use Rattle.bits.specs.Bit.{bit}
 use Rattle.bits.proofs.Laws.{bit-zero}
 use Rattle.bits.proofs.Test.{four}
 use Rattle.blocks.specs.Bytes.{_⊕_, zeros}
-use Rattle.blocks.specs.Bits.{bitAt, cells}
+use Rattle.blocks.specs.Bits.{bitAt, blockOf, cells}
 use Rattle.blocks.proofs.Xor.{⊕-zero}
 use Rattle.blocks.proofs.ByBits.{cells-same, rearranged-block}
 use Rattle.baksheesh.specs.Baksheesh.{from, permBits, constant}
@@ -50,6 +50,11 @@ module _ (n : ℕ) (f : Bool) (a b k s r : List ℕ) (moved : s ≡ permBits (sb
   lane-other t e =
       e ∙ ap (λ (z : List ℕ). z ⊕ k) (moved ∙ sym (⊕-zero (rearranged-block from (sboxShare f a b))))
       ∙ ap (λ (z : Bool). (permBits (sboxShare f a b) ⊕ cond z (constant n) zeros) ⊕ k) (sym t)
+
+-- words of zeros
+pub zero-words : unpacked (0 ∷ 0 ∷ 0 ∷ 0 ∷ []) ≡ zeros
+unfolding unpacked cells blockOf bit zeros
+zero-words = refl
 
 -- two triples of shares are the same if each share is
 pub shares-same : {s t : Shares} → s i₀ ≡ t i₀ → s i₁ ≡ t i₁ → s i₂ ≡ t i₂ → s ≡ t

@@ -1,6 +1,6 @@
 -- Three XOR shares of a block, numbered 0, 1, 2, counted modulo 3. Assumes nothing.
 use mathlib.Core.Bool.{Bool, true, false}
-use mathlib.Core.List.{List}
+use mathlib.Core.List.{List, _++_}
 use Prim.Native.Nat.{ℕ}
 use Rattle.blocks.specs.Bytes.{_⊕_, Block, zeros}
 use Rattle.blocks.specs.Put.{part}
@@ -51,3 +51,6 @@ only b = three b zeros zeros
 -- three shares that stand one behind the other
 abbrev pub sharesIn : List ℕ → Shares
 sharesIn b = three (part 0 16 b) (part 16 16 b) (part 32 16 b)
+
+abbrev pub flat : Shares → List ℕ
+flat s = s i₀ ++ (s i₁ ++ s i₂)

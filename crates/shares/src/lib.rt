@@ -1,5 +1,6 @@
 // BAKSHEESH on three XOR shares in packed form.
 use packed::form::pack;
+use packed::form::unpack;
 use packed::steps::add;
 use packed::steps::add_constants;
 use packed::steps::perm_bits;
@@ -10,7 +11,7 @@ ghost use Prim.Native.Nat.{_+_, _-_, _*_, _≤_, _<_};
 ghost use lib.ListN.{length};
 ghost use Rattle.baksheesh.specs.Baksheesh.{rounds, rotated};
 ghost use Rattle.packed.specs.Packed.{unpacked};
-ghost use Rattle.shares.specs.Shares.{spread, each, add as addShares};
+ghost use Rattle.shares.specs.Shares.{spread, each, sharesIn, flat, add as addShares, only as onlyShare};
 ghost use Rattle.shares.specs.Sbox.{sboxShare};
 ghost use Rattle.shares.specs.Tape.{at, pairSize, callSize};
 ghost use Rattle.shares.specs.Call.{laneRound, shareRound};
@@ -21,6 +22,42 @@ pub struct Triple {
     pub a: [u32; 4],
     pub b: [u32; 4],
     pub c: [u32; 4],
+}
+
+// A block in share 0, zeros in the others.
+pub fn only(b: [u32; 4]) -> Triple
+    ensures { λ r. ⌜ sharesOf r ≡ onlyShare (unpacked b) ⌝ }
+{
+    Triple {
+        a: b,
+        b: [0; 4],
+        c: [0; 4],
+    }
+}
+
+// Three blocks, one behind the other, as shares.
+pub fn pack_shares(b: [u8; 48]) -> Triple
+    ensures { λ r. ⌜ sharesOf r ≡ sharesIn b ⌝ }
+{
+    Triple {
+        a: pack(blocks::block_at(&b, 0)),
+        b: pack(blocks::block_at(&b, 16)),
+        c: pack(blocks::block_at(&b, 32)),
+    }
+}
+
+// Three shares, one behind the other.
+pub fn unpack_shares(s: Triple) -> [u8; 48]
+    ensures { λ r. ⌜ r ≡ flat (sharesOf s) ⌝ }
+{
+    let a = s.a;
+    let b = s.b;
+    let c = s.c;
+    let mut bytes = [0u8; 48];
+    blocks::put_bytes(&unpack(a), &mut bytes, 0);
+    blocks::put_bytes(&unpack(b), &mut bytes, 16);
+    blocks::put_bytes(&unpack(c), &mut bytes, 32);
+    bytes
 }
 
 // A word of ones, or of zeros.
@@ -84,7 +121,7 @@ fn share_round(s: Triple, k: Triple, n: usize) -> Triple
 }
 
 // The masks u, v and u XOR v, one into each share.
-fn mask(s: Triple, u: [u32; 4], v: [u32; 4]) -> Triple
+pub fn mask(s: Triple, u: [u32; 4], v: [u32; 4]) -> Triple
     ensures { λ r. ⌜ sharesOf r ≡ addShares (sharesOf s) (spread (unpacked u) (unpacked v)) ⌝ }
 {
     let a = s.a;

@@ -36,14 +36,13 @@ returns c =
     let a = start .args in
     let l = size start in
     let end : ℕ = length (a .message .now) + 8 in
-    let m : List ℕ = crypted (a .ke) (a .number) (a .sequence) (a .message .now) in
-    let text = filled .crypt .ensures ∙ ap (put 8 _) (numbered .put-number2 .ensures ∙ ap (put 4 _) (first .put-number .ensures)) in
-    let code =
-    tagged .tag .ensures
-    ∙ ap (λ (z : List ℕ). tagOf (a .km) (a .number) (a .sequence) z) (ap (part 8 (end - 8)) text ∙ text-there (a .number) (a .sequence) m (a .out .now) (omega arith) (end - 8) (omega arith)) in
+    let body : List ℕ = crypted (a .ke) (a .number) (a .sequence) (a .message .now) in
+    let written = filled .crypt .ensures ∙ ap (put 8 _) (numbered .put-number2 .ensures ∙ ap (put 4 _) (first .put-number .ensures)) in
+    let text = ap (part 8 (end - 8)) written ∙ text-there (a .number) (a .sequence) body (a .out .now) (omega arith) (end - 8) (omega arith) in
+    let code = tagged .tag .ensures ∙ ap (λ (z : List ℕ). tagOf (a .km) (a .number) (a .sequence) z) text in
     c .before .before .put-bytes .ensures
-    ∙ (λ i. put end (code i) (text i))
-    ∙ record-put (a .number) (a .sequence) m (a .out .now) (omega arith) _ end (omega arith)
+    ∙ (λ i. put end (code i) (written i))
+    ∙ record-put (a .number) (a .sequence) body (a .out .now) (omega arith) _ end (omega arith)
 
 pub put-record-spec : {M : Type 1} → statement M
 put-record-spec =
