@@ -12,7 +12,7 @@ use Rattle.baksheesh.specs.Baksheesh.{rounds, after, rotated}
 use Rattle.answers.proofs.First.{if-done}
 use Rattle.modes.specs.Pieces.{blockCount}
 use Rattle.links.specs.declared.Sender.{Sender}
-use Rattle.shares.specs.Shares.{next, isFirst, Shares, Blocks, join}
+use Rattle.shares.specs.Shares.{flat, next, isFirst, Shares, Blocks, join}
 use Rattle.shares.specs.Tape.{at, pairSize}
 use Rattle.shares.specs.Call.{lane}
 use Rattle.shares.specs.OneTape.{roundOnLane}
@@ -22,7 +22,7 @@ use Rattle.shares.proofs.Lane.{first-part, second-part, third-part, lane-length
 use Rattle.sealing.specs.Calls.{Call, mac, numberOf, callOf, callCount, callAt, tapeNeed, ofKey}
 use Rattle.sealing.specs.Sealed.{keyShares, run, inputOf, tagShares, laneOf}
 use Rattle.sealing.specs.Plain.{plainState, plainKey}
-use Rattle.sealing.specs.Entry.{flat, sealShares, laneSize, indexOf}
+use Rattle.sealing.specs.Entry.{sealShares, laneSize, indexOf}
 use Rattle.sealing.specs.Demand.{Formed, Accepted, joinedKE, joinedKM, shown, Joined}
 use Rattle.sealing.proofs.Calls.{call-last, number-call}
 use Rattle.sealing.proofs.Shape.{key-blocks, input-blocks, run-blocks, macIn-blocks}
