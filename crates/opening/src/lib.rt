@@ -3,6 +3,8 @@ use links::KeyAnswer;
 ghost use mathlib.Core.Path.{_≡_};
 ghost use Rattle.answers.specs.Answer.{ifDone};
 ghost use Rattle.links.specs.Links.{keySays, keyAnswer};
+ghost use lib.ListN.{length};
+ghost use Rattle.opening.specs.Open.{openSays, openAnswer, openLink, openOutput};
 ghost use Rattle.opening.specs.Receivers.{receiverKeys, freshReceiver, receiverOf};
 
 // The link's number, the last sequence number accepted, and the keys KE and KM.
@@ -71,6 +73,71 @@ impl Receiver {
                 ke,
                 km,
             },
+        }
+    }
+
+    // Opens a record, and hands the link back: with the record's number where it was accepted.
+    pub fn open(self, sealed: &[u8], out: &mut [u8]) -> Opening
+        ensures { λ r. ⌜ openSays (r .answer) ≡ openAnswer self (now (sealed .entry)) (length (now (out .entry))) ⌝ }
+        ensures { λ r. ⌜ r .link ≡ openLink self (now (sealed .entry)) (length (now (out .entry))) ⌝ }
+        ensures { λ r. ⌜ now (out .exit) ≡ openOutput self (now (sealed .entry)) (now (out .entry)) ⌝ }
+    {
+        if !self.keyed {
+            return Opening {
+                answer: OpenAnswer::NotKeyed,
+                link: self,
+            };
+        }
+        let n = sealed.len();
+        if n < 24 {
+            return Opening {
+                answer: OpenAnswer::BadLength,
+                link: self,
+            };
+        }
+        if 280 < n {
+            return Opening {
+                answer: OpenAnswer::BadLength,
+                link: self,
+            };
+        }
+        let number = blocks::number_at(sealed, 0);
+        if number != self.number {
+            return Opening {
+                answer: OpenAnswer::OtherLink,
+                link: self,
+            };
+        }
+        let len = n - 24;
+        if out.len() < len {
+            return Opening {
+                answer: OpenAnswer::ShortOutput,
+                link: self,
+            };
+        }
+        let sequence = blocks::number_at(sealed, 4);
+        if sequence <= self.last {
+            return Opening {
+                answer: OpenAnswer::OldNumber,
+                link: self,
+            };
+        }
+        let km = self.km;
+        let end = n - 16;
+        let tag = plain::tag(km, number, sequence, &sealed[8..end]);
+        if !blocks::same_at(tag, sealed, end) {
+            return Opening {
+                answer: OpenAnswer::WrongTag,
+                link: self,
+            };
+        }
+        let ke = self.ke;
+        plain::crypt(ke, number, sequence, &sealed[8..end], out, 0);
+        let mut next = self;
+        next.last = sequence;
+        Opening {
+            answer: OpenAnswer::Opened { len },
+            link: next,
         }
     }
 }
