@@ -2,3 +2,4 @@ pub mod Pieces
 pub mod Ctr
 pub mod Doubled
 pub mod Cmac
+pub mod Written

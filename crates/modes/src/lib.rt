@@ -1,6 +1,12 @@
-// CTR and CMAC over any block function, as definitions; and CMAC's doubling of a block.
+// Steps of CTR and CMAC that do not know the cipher: a block of the text XORed, padded, doubled. The modes over any block
+// function are definitions: specs/.
 ghost use mathlib.Core.Path.{_≡_};
-ghost use Rattle.modes.specs.Cmac.{doubled};
+ghost use Prim.Native.Nat.{_+_, _-_, _*_, _≤_, _<_, min};
+ghost use lib.ListN.{length};
+ghost use Rattle.blocks.specs.Bytes.{_⊕_};
+ghost use Rattle.blocks.specs.Put.{part, put};
+ghost use Rattle.modes.specs.Pieces.{piece};
+ghost use Rattle.modes.specs.Cmac.{padded, doubled};
 
 // The block shifted left by one bit, and 0x87 added where the highest bit was set.
 pub fn double(b: [u8; 16]) -> [u8; 16]
@@ -19,4 +25,45 @@ pub fn double(b: [u8; 16]) -> [u8; 16]
     }
     r[15] = last ^ 0x87;
     r
+}
+
+// How many of n bytes, at most 16, stand from `from`.
+pub fn width(n: usize, from: usize) -> usize
+    requires { ⌜ from ≤ n ⌝ }
+    ensures { λ r. ⌜ r ≡ min 16 (n - from) ⌝ }
+{
+    if n - from < 16 {
+        return n - from;
+    }
+    16
+}
+
+// Writes block j of the text, XORed with a key block, from `at`.
+pub fn put_xor(text: &[u8], j: usize, key: [u8; 16], out: &mut [u8], at: usize)
+    requires { ⌜ (16 * j ≤ length (now text)) × (at + length (piece j (now text)) ≤ length (now out)) ⌝ }
+    ensures { λ _. ⌜ now (out .exit) ≡ put at (piece j (now (text .entry)) ⊕ key) (now (out .entry)) ⌝ }
+{
+    let from = 16 * j;
+    let n = width(text.len(), from);
+    let mut i = 0;
+    while i < n {
+        out[at + i] = text[from + i] ^ key[i];
+        i += 1;
+    }
+}
+
+// The bytes from `at` to the text's end, padded.
+pub fn padded_at(text: &[u8], at: usize) -> [u8; 16]
+    requires { ⌜ (at ≤ length (now text)) × (length (now text) < at + 16) ⌝ }
+    ensures { λ r. ⌜ r ≡ padded (part at 16 (now (text .entry))) ⌝ }
+{
+    let n = text.len() - at;
+    let mut block = [0u8; 16];
+    let mut i = 0;
+    while i < n {
+        block[i] = text[at + i];
+        i += 1;
+    }
+    block[n] = 0x80;
+    block
 }

@@ -4,14 +4,13 @@ use packed::form::pack;
 use packed::form::unpack;
 use packed::steps::add;
 ghost use mathlib.Core.Path.{_≡_};
-ghost use Prim.Native.Nat.{_+_, _-_, _*_, _≤_, _<_, min};
+ghost use Prim.Native.Nat.{_+_, _-_, _*_, _≤_, _<_};
 ghost use lib.ListN.{length};
-ghost use Rattle.blocks.specs.Bytes.{_⊕_};
-ghost use Rattle.blocks.specs.Put.{part, put};
+ghost use Rattle.blocks.specs.Put.{put};
 ghost use Rattle.baksheesh.specs.Baksheesh.{encrypt};
 ghost use Rattle.packed.specs.Packed.{unpacked};
 ghost use Rattle.modes.specs.Pieces.{piece};
-ghost use Rattle.modes.specs.Cmac.{padded, subkey₁, subkey₂, lastBlock};
+ghost use Rattle.modes.specs.Cmac.{subkey₁, subkey₂, lastBlock};
 ghost use Rattle.modes.specs.Chain.{chainFrom};
 ghost use Rattle.links.specs.Record.{longest, recordSize, counterBlock};
 ghost use Rattle.plain.specs.Plain.{crypted, tagOf, plainRecord};
@@ -35,31 +34,6 @@ fn key_block(key: [u32; 4], number: u32, sequence: u32, i: u32) -> [u8; 16]
     unpack(encrypt_words(key, pack(links::counter_block(number, sequence, i))))
 }
 
-// How many of n bytes, at most 16, stand from `from`.
-fn width(n: usize, from: usize) -> usize
-    requires { ⌜ from ≤ n ⌝ }
-    ensures { λ r. ⌜ r ≡ min 16 (n - from) ⌝ }
-{
-    if n - from < 16 {
-        return n - from;
-    }
-    16
-}
-
-// Writes block j of the text, XORed with a key block, from `at`.
-fn put_xor(text: &[u8], j: usize, key: [u8; 16], out: &mut [u8], at: usize)
-    requires { ⌜ (16 * j ≤ length (now text)) × (at + length (piece j (now text)) ≤ length (now out)) ⌝ }
-    ensures { λ _. ⌜ now (out .exit) ≡ put at (piece j (now (text .entry)) ⊕ key) (now (out .entry)) ⌝ }
-{
-    let from = 16 * j;
-    let n = width(text.len(), from);
-    let mut i = 0;
-    while i < n {
-        out[at + i] = text[from + i] ^ key[i];
-        i += 1;
-    }
-}
-
 // Writes the ciphertext of a message, or the message of a ciphertext, from `at`.
 pub fn crypt(ke: [u8; 16], number: u32, sequence: u32, text: &[u8], out: &mut [u8], at: usize)
     requires { ⌜ (at + length (now text) ≤ length (now out)) × (length (now text) ≤ longest) ⌝ }
@@ -69,7 +43,7 @@ pub fn crypt(ke: [u8; 16], number: u32, sequence: u32, text: &[u8], out: &mut [u
     let count = (text.len() + 15) / 16;
     for j in 0..count {
         let block = key_block(key, number, sequence, j as u32);
-        put_xor(text, j, block, out, at + 16 * j);
+        modes::put_xor(text, j, block, out, at + 16 * j);
     }
 }
 
@@ -87,22 +61,6 @@ fn second_subkey(key: [u32; 4]) -> [u8; 16]
     modes::double(first_subkey(key))
 }
 
-// The bytes from `at` to the text's end, padded.
-fn padded_at(text: &[u8], at: usize) -> [u8; 16]
-    requires { ⌜ (at ≤ length (now text)) × (length (now text) < at + 16) ⌝ }
-    ensures { λ r. ⌜ r ≡ padded (part at 16 (now (text .entry))) ⌝ }
-{
-    let n = text.len() - at;
-    let mut block = [0u8; 16];
-    let mut i = 0;
-    while i < n {
-        block[i] = text[at + i];
-        i += 1;
-    }
-    block[n] = 0x80;
-    block
-}
-
 // The text's last block, number j, with its subkey.
 fn last_block(key: [u32; 4], text: &[u8], j: usize) -> [u32; 4]
     requires { ⌜ (16 * j ≤ length (now text)) × (length (now text) ≤ 16 * j + 16) ⌝ }
@@ -110,7 +68,7 @@ fn last_block(key: [u32; 4], text: &[u8], j: usize) -> [u32; 4]
 {
     let at = 16 * j;
     if text.len() - at < 16 {
-        return add(pack(second_subkey(key)), pack(padded_at(text, at)));
+        return add(pack(second_subkey(key)), pack(modes::padded_at(text, at)));
     }
     add(pack(first_subkey(key)), pack(blocks::block_at(text, at)))
 }

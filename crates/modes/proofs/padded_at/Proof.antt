@@ -6,9 +6,9 @@ use lib.ListN.{getD, replicate}
 use borrow.Author.Needs.{needs}
 use Rattle.blocks.specs.Put.{put, tab}
 use Rattle.blocks.proofs.Parts.{all-none, all-more}
-use Rattle.plain.proofs.Written.{padded-last}
-use Rattle.plain.proofs.padded_at.Statement.{statement}
-use Rattle.plain.proofs.padded_at.Tie as tie
+use Rattle.modes.proofs.Written.{padded-last}
+use Rattle.modes.proofs.padded_at.Statement.{statement}
+use Rattle.modes.proofs.padded_at.Tie as tie
 
 abbrev Inv-loop : tie.InvT-loop
 Inv-loop text at n block₀ i₀ block i = (i ≤ n) × (block ≡ put 0 (tab i (λ k. getD text (at + k) 0)) (replicate 16 0))

@@ -9,11 +9,11 @@ use Rattle.blocks.specs.Bytes.{_⊕_}
 use Rattle.blocks.specs.Put.{put, tab}
 use Rattle.blocks.proofs.Xor.{⊕-length}
 use Rattle.blocks.proofs.Parts.{tab-list, fill-none, fill-length, fill-more, fill-done}
 use Rattle.modes.specs.Pieces.{piece}
 use Rattle.modes.proofs.Pieces.{piece-length}
-use Rattle.plain.proofs.Written.{part-⊕}
-use Rattle.plain.proofs.put_xor.Statement.{statement}
-use Rattle.plain.proofs.put_xor.Tie as tie
+use Rattle.modes.proofs.Written.{part-⊕}
+use Rattle.modes.proofs.put_xor.Statement.{statement}
+use Rattle.modes.proofs.put_xor.Tie as tie
 
 abbrev Inv-loop : tie.InvT-loop
 Inv-loop text j out₀ at key from n i₀ out i = (i ≤ n) × (out ≡ put at (tab i (λ k. getD (piece j text ⊕ key) k 0)) out₀)

@@ -1,0 +1,27 @@
+-- `answer` meets its contract. Assumes nothing.
+use native.Mathlib.Omega.{arith}
+use borrow.Author.Needs.{needs}
+use Rattle.block.proofs.Printed.{says-ciphertext, says-length}
+use Rattle.block.proofs.answer.Statement.{statement}
+use Rattle.block.proofs.answer.Tie as tie
+
+returns : tie.Need-returns
+returns c =
+    let p = c .before .before .before .before .before .before .before in
+    let d = p .before .before .before .before .before in
+    let e = d .before .before .before .before in
+    says-ciphertext (e .before .before .args .t1) (search needs) (e .before .before .args .n) _ _ _ _ _ _ _ (e .if1 .taken)
+    (d .before .before .block-at .ensures) (d .block-at2 .ensures) (p .before .before .before .before .encrypt .ensures)
+    (p .before .before .before .digits .ensures) (search needs) (omega arith) (p .put-bytes .ensures) (c .before .before .put-bytes2 .ensures)
+
+returns-2 : tie.Need-returns-2
+returns-2 c =
+    let d = c .before .before .before .before .before in
+    says-length (d .before .before .args .t1) (search needs) (d .before .before .args .n) _ _ (d .if1 .left) (c .before .before .put-bytes3 .ensures)
+
+pub answer-spec : {M : Type 1} → statement M
+answer-spec =
+    tie.close
+    (tie.spec (λ c. search needs) (λ c κs. search needs) (λ c. search needs) (λ c κs. search needs) (λ c κs. search needs)
+    (λ c κs. search needs) (λ c. search needs) (λ c κs. search needs) (λ c. search needs) (λ c κs. search needs)
+    (λ c. search needs) returns (λ c. search needs) (λ c κs. search needs) (λ c. search needs) returns-2)
