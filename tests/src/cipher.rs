@@ -103,7 +103,7 @@ pub fn inverse_perm_bits(bits: &Bits) -> Bits {
 }
 
 /// XORs the constant of a round, counted from 0; done twice it changes nothing.
-fn add_constant(bits: &Bits, round: usize) -> Bits {
+pub fn add_constant(bits: &Bits, round: usize) -> Bits {
     let mut result = *bits;
     for j in 0..6 {
         result[TAPS[j]] ^= (CONSTANTS[round] >> j) & 1;
@@ -111,7 +111,8 @@ fn add_constant(bits: &Bits, round: usize) -> Bits {
     result
 }
 
-fn add(bits: &Bits, key: &Bits) -> Bits {
+/// The XOR of two.
+pub fn add(bits: &Bits, key: &Bits) -> Bits {
     let mut result = [0; 128];
     for i in 0..128 {
         result[i] = bits[i] ^ key[i];
@@ -139,9 +140,22 @@ fn round_keys(key: &Block) -> [Bits; ROUNDS + 1] {
 }
 
 pub fn encrypt(key: &Block, block: &Block) -> Block {
+    steps(key, block, |_, _| ())
+}
+
+/// For each round the state on entering it, and the key added at its end.
+pub fn rounds(key: &Block, block: &Block) -> Vec<(Block, Block)> {
+    let mut seen = Vec::new();
+    steps(key, block, |state, key| seen.push((block_of(state), block_of(key))));
+    seen
+}
+
+/// The steps of encryption; `see` is shown each round's state on entering it, and its key.
+fn steps(key: &Block, block: &Block, mut see: impl FnMut(&Bits, &Bits)) -> Block {
     let keys = round_keys(key);
     let mut state = add(&bits_of(block), &keys[0]);
     for round in 0..ROUNDS {
+        see(&state, &keys[round + 1]);
         state = sub_cells(&state);
         state = perm_bits(&state);
         state = add_constant(&state, round);

@@ -32,6 +32,10 @@ impl Guarded {
         self.length
     }
 
+    pub fn content(&self) -> &[u8] {
+        &self.whole[self.start..self.start + self.length]
+    }
+
     /// The guards and the content as they stand now.
     pub fn whole(&self) -> &[u8] {
         &self.whole

@@ -21,6 +21,15 @@ impl Random {
         (0..length).map(|_| (self.number() >> 56) as u8).collect()
     }
 
+    /// A number from 0 to one less than `limit`.
+    pub fn below(&mut self, limit: usize) -> usize {
+        (self.number() % limit as u64) as usize
+    }
+
+    pub fn pick<T: Copy>(&mut self, from: &[T]) -> T {
+        from[self.below(from.len())]
+    }
+
     pub fn block(&mut self) -> [u8; 16] {
         self.bytes(16).try_into().unwrap()
     }

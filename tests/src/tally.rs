@@ -45,6 +45,11 @@ impl Tally {
         Random::new(self.seed)
     }
 
+    /// Another such stream for each number.
+    pub fn random_for(&self, number: usize) -> Random {
+        Random::new(Random::new(self.seed ^ number as u64).number())
+    }
+
     /// Holds bytes to those expected.
     pub fn same(&mut self, what: Arguments, got: &[u8], expected: &[u8]) {
         if self.self_test {
@@ -58,6 +63,11 @@ impl Tally {
     /// Holds a number to the one expected.
     pub fn same_number(&mut self, what: Arguments, got: u32, expected: u32) {
         self.same(what, &got.to_be_bytes(), &expected.to_be_bytes());
+    }
+
+    /// Holds a statement to be true or false.
+    pub fn same_flag(&mut self, what: Arguments, got: bool, expected: bool) {
+        self.same(what, &[got as u8], &[expected as u8]);
     }
 
     /// The expected bytes with one bit flipped, another one each time.

@@ -1,0 +1,385 @@
+//! The lane report: `rasppuce_report`.
+
+use crate::cipher::{self, Block, ROUNDS};
+use crate::lent::{hold_answer, hold_as, hold_order, Call, Lent};
+use crate::links::{
+    self, Sender, BAD_LANE, LANE, LONG_MESSAGE, NOT_KEYED, NUMBERS_USED, SENDER, SENDER_KEYS, SHARES,
+    SHORT_OUTPUT, SHORT_TAPE,
+};
+use crate::modes::xor_blocks;
+use crate::sealing::Seal;
+use crate::shares::{self, Lane};
+use crate::tally::Tally;
+
+extern "C" {
+    fn rasppuce_report(
+        link: *const u8,
+        link_len: usize,
+        message: *const u8,
+        message_len: usize,
+        tape: *const u8,
+        tape_len: usize,
+        call: u32,
+        round: u32,
+        lane: u32,
+        out: *mut u8,
+        out_len: usize,
+    ) -> u32;
+}
+
+#[derive(Clone)]
+pub struct Report {
+    pub link: Vec<u8>,
+    pub message: Vec<u8>,
+    pub tape: Vec<u8>,
+    pub call: u32,
+    pub round: u32,
+    pub lane: u32,
+    pub out: Vec<u8>,
+}
+
+impl Call for Report {
+    const NAME: &'static str = "rasppuce_report";
+
+    fn slices(&mut self) -> Vec<(&'static str, &mut Vec<u8>)> {
+        vec![
+            ("link", &mut self.link),
+            ("message", &mut self.message),
+            ("tape", &mut self.tape),
+            ("out", &mut self.out),
+        ]
+    }
+
+    fn numbers(&self) -> Vec<(&'static str, u32)> {
+        vec![("call", self.call), ("round", self.round), ("lane", self.lane)]
+    }
+
+    unsafe fn make(&self, lent: &[Lent]) -> u32 {
+        let [link, message, tape, out] = lent else { panic!("four slices") };
+        rasppuce_report(
+            link.pointer,
+            link.length,
+            message.pointer,
+            message.length,
+            tape.pointer,
+            tape.length,
+            self.call,
+            self.round,
+            self.lane,
+            out.pointer,
+            out.length,
+        )
+    }
+
+    fn own(&mut self) -> u32 {
+        let Report { call, round, lane, .. } = *self;
+        links::report(&self.link, &self.message, &self.tape, call, round, lane, &mut self.out)
+    }
+}
+
+/// An acceptable call with no byte to spare.
+fn good(tally: &Tally, length: usize, number: usize) -> Report {
+    let mut random = tally.random_for(1000 * number + length);
+    Report {
+        link: links::link(random.number() as u32, random.below(1000) as u32, &random.bytes(SENDER_KEYS)),
+        message: random.bytes(length),
+        tape: random.bytes(shares::tape_need(length)),
+        call: 1,
+        round: 1,
+        lane: 0,
+        out: random.bytes(LANE),
+    }
+}
+
+fn sender(report: &Report) -> Sender {
+    links::sender(&report.link).expect("a keyed link")
+}
+
+/// Every lane of every round of every call of some sealings, as the report shows it: equal to
+/// the lane of these tests. Then what the three lanes of a round have to do with each other and
+/// with the plain cipher, and how the rounds hang together, all on the bytes that were reported.
+pub fn every_lane(tally: &mut Tally) {
+    for length in [0, 1, 16, 17, 48] {
+        let good = good(tally, length, 0);
+        let link = sender(&good);
+        let sealing = links::next_sealing(&link, &good.message, &good.tape);
+        let keys = links::joined_keys(&good.link[9..]);
+        let plain = links::plain_calls(&keys, link.number, link.last + 1, &good.message);
+        tally.same_number(
+            format_args!("plain calls, {length} bytes"),
+            plain.len() as u32,
+            sealing.calls.len() as u32,
+        );
+        for (k, call) in sealing.calls.iter().enumerate() {
+            let plain_rounds = cipher::rounds(&plain[k].0, &plain[k].1);
+            // What the round before made of each share, of its lane alone.
+            let mut made: Option<[Block; 3]> = None;
+            for r in 0..ROUNDS {
+                let what = format!("{length} bytes, call {}, round {}", k + 1, r + 1);
+                let mut lanes = Vec::new();
+                for lane in 0..3 {
+                    let before = Report { call: k as u32 + 1, round: r as u32 + 1, lane, ..good.clone() };
+                    let after = Report { out: call.rounds[r].lane(lane as usize).to_vec(), ..before.clone() };
+                    lanes.push(hold_as(tally, &before, 0, &after, k + r).left.out);
+                }
+                let lanes: Vec<Lane> = lanes.into_iter().map(|lane| lane.try_into().unwrap()).collect();
+                hold_joined(tally, &what, &lanes, &plain_rounds[r]);
+                if let Some(made) = made {
+                    hold_masks(tally, &what, &lanes, &made, &good.tape[shares::masks_at(k + 1, r + 1)..]);
+                }
+                made = Some(std::array::from_fn(|i| shares::share_of_lane(i, r + 1, &lanes[i])));
+            }
+        }
+    }
+}
+
+/// A round's lanes: a state share stands in two of them with the same bytes; the state shares
+/// join to the plain cipher's state on entering the round, the key shares to the key it adds.
+fn hold_joined(tally: &mut Tally, what: &str, lanes: &[Lane], plain: &(Block, Block)) {
+    let parts: Vec<[Block; 3]> = lanes.iter().map(shares::lane_parts).collect();
+    for i in 0..3 {
+        tally.same(format_args!("share {} twice, {what}", (i + 2) % 3), &parts[i][1], &parts[(i + 1) % 3][0]);
+    }
+    let state = shares::join(&[parts[0][0], parts[1][0], parts[2][0]]);
+    tally.same(format_args!("joined state, {what}"), &state, &plain.0);
+    let key = shares::join(&[parts[0][2], parts[1][2], parts[2][2]]);
+    tally.same(format_args!("joined key, {what}"), &key, &plain.1);
+}
+
+/// A round's lanes are what the round before made of each share, with this round's masks.
+fn hold_masks(tally: &mut Tally, what: &str, lanes: &[Lane], made: &[Block; 3], masks: &[u8]) {
+    let (u, v): (Block, Block) = (masks[..16].try_into().unwrap(), masks[16..32].try_into().unwrap());
+    for (i, mask) in [u, v, xor_blocks(&u, &v)].iter().enumerate() {
+        // Share i stands first in lane i - 1.
+        let share = &lanes[(i + 2) % 3][..16];
+        tally.same(
+            format_args!("share {i} from the round before, {what}"),
+            share,
+            &xor_blocks(&made[i], mask),
+        );
+    }
+}
+
+/// The tag shares that a sealing returns are what round 35 makes of the lanes that the report
+/// shows of its last call.
+pub fn tag_shares(tally: &mut Tally) {
+    for length in links::EDGES {
+        let good = good(tally, length, 1);
+        let seal = Seal {
+            link: good.link.clone(),
+            message: good.message.clone(),
+            tape: good.tape.clone(),
+            record: vec![0; length + links::ADDED],
+            shares: vec![0; SHARES],
+        };
+        let sealed = hold_answer(tally, &seal, 0, length).left.shares;
+        for lane in 0..3 {
+            let last = shares::call_count(length) as u32;
+            let call = Report { call: last, round: 35, lane, ..good.clone() };
+            let out = hold_answer(tally, &call, 0, length).left.out;
+            let lane = lane as usize;
+            let share = shares::share_of_lane(lane, ROUNDS, &out.try_into().unwrap());
+            let returned = &sealed[16 * lane..16 * lane + 16];
+            tally.same(format_args!("tag share {lane}, {length} bytes"), returned, &share);
+        }
+    }
+}
+
+/// Calls, rounds and lanes at the ends of their ranges and out of them.
+pub fn ranges(tally: &mut Tally) {
+    for length in [0, 1, 16, 17, 33] {
+        let good = good(tally, length, 2);
+        let calls = shares::call_count(length) as u32;
+        for call in
+            [0, 1, 2, calls - 1, calls, calls + 1, calls + 2, 256 + 1, 65_536 + 1, 0x8000_0001, u32::MAX]
+        {
+            for round in [0, 1, 2, 34, 35, 36, 37, 256 + 1, 65_536 + 1, 0x8000_0001, u32::MAX] {
+                for lane in [0, 1, 2, 3, 4, 256, 65_536, 0x8000_0000, u32::MAX] {
+                    let fits = (1..=calls).contains(&call) && (1..=35).contains(&round) && lane <= 2;
+                    let call = Report { call, round, lane, ..good.clone() };
+                    hold_answer(tally, &call, if fits { 0 } else { BAD_LANE }, lane as usize);
+                }
+            }
+        }
+    }
+}
+
+/// Outputs, tapes, links and messages of other lengths, and other last numbers.
+pub fn lengths(tally: &mut Tally) {
+    for (length, need) in [(0, 2304), (1, 4544), (16, 4544), (17, 6784), (256, 38_144)] {
+        let good = good(tally, length, 3);
+        for room in (0..=60).chain([96, 256 + 47, 256 + 48, 65_536 + 47]) {
+            let call = Report { out: tally.random_for(room).bytes(room), ..good.clone() };
+            hold_answer(tally, &call, if room < LANE { SHORT_OUTPUT } else { 0 }, room);
+        }
+        for size in [0, 1, 64, need - 1120, need - 32, need - 1, need, need + 1, need + 1120, need + 70_000] {
+            let mut call = good.clone();
+            call.tape.resize(size, 9);
+            hold_answer(tally, &call, if size < need { SHORT_TAPE } else { 0 }, size);
+        }
+    }
+    for length in [257, 258, 272, 300, 512, 65_536, 65_792] {
+        hold_answer(tally, &good(tally, length, 3), LONG_MESSAGE, length);
+    }
+    let good = good(tally, 9, 3);
+    for size in (0..=130).chain([256 + 105, 65_536 + 105]) {
+        let mut call = good.clone();
+        call.link.resize(size, 1);
+        hold_answer(tally, &call, if size == SENDER { 0 } else { NOT_KEYED }, size);
+    }
+    for byte in 0..=255 {
+        let mut call = good.clone();
+        call.link[0] = byte;
+        hold_answer(tally, &call, if byte == 1 { 0 } else { NOT_KEYED }, byte as usize);
+    }
+    for last in [0, 1, 255, 256, 0x7fff_ffff, u32::MAX - 2, u32::MAX - 1, u32::MAX] {
+        let mut call = good.clone();
+        links::set_last(&mut call.link, last);
+        hold_answer(tally, &call, if last == u32::MAX { NUMBERS_USED } else { 0 }, 0);
+    }
+}
+
+/// The refusals, alone and together.
+pub fn refusals(tally: &mut Tally) {
+    for length in [0, 17] {
+        hold_order(
+            tally,
+            &good(tally, length, 4),
+            &[
+                (
+                    NOT_KEYED,
+                    &[
+                        |call| call.link[0] = 0,
+                        |call| call.link[0] = 2,
+                        |call| call.link.clear(),
+                        |call| call.link.truncate(104),
+                        |call| call.link.push(0),
+                    ],
+                ),
+                (NUMBERS_USED, &[|call| links::set_last(&mut call.link, u32::MAX)]),
+                (LONG_MESSAGE, &[|call| call.message.resize(257, 1), |call| call.message.resize(65_536, 3)]),
+                (SHORT_TAPE, &[|call| call.tape.clear(), |call| call.tape.truncate(call.tape.len() - 1)]),
+                (
+                    BAD_LANE,
+                    &[
+                        |call| call.call = 0,
+                        |call| call.call = 7,
+                        |call| call.call = u32::MAX,
+                        |call| call.round = 0,
+                        |call| call.round = 36,
+                        |call| call.round = u32::MAX,
+                        |call| call.lane = 3,
+                        |call| call.lane = u32::MAX,
+                        |call| (call.call, call.round, call.lane) = (0, 0, 3),
+                    ],
+                ),
+                (SHORT_OUTPUT, &[|call| call.out.clear(), |call| call.out.truncate(47)]),
+            ],
+        );
+    }
+}
+
+// ---- one tape
+
+/// The one tape under which the sealing of `report` shows this lane, of all that differ from its
+/// tape at most in the round's 32 mask bytes and in the lane's 16 key mask bytes.
+fn tape_that_shows(report: &Report, shown: &Lane) -> Vec<u8> {
+    let link = sender(report);
+    let (call, round, lane) = (report.call as usize, report.round as usize, report.lane as usize);
+    let [a, b, key] = shares::lane_parts(shown);
+    let mut tape = report.tape.clone();
+
+    // The key share as the round adds it has been rotated once in each round. Its mask is c in
+    // lane 0, d in lane 1 and c XOR d in lane 2, where d stays.
+    let at = shares::key_masks_at(call, report.message.len());
+    let key_shares = if at == 0 { link.ke } else { link.km };
+    let mut bits = cipher::bits_of(&key);
+    bits.rotate_right(round);
+    let mask = xor_blocks(&cipher::block_of(&bits), &key_shares[lane]);
+    let d: Block = tape[at + 16..at + 32].try_into().unwrap();
+    match lane {
+        0 => put(&mut tape, at, &mask),
+        1 => put(&mut tape, at + 16, &mask),
+        _ => put(&mut tape, at, &xor_blocks(&mask, &d)),
+    }
+
+    // With that key mask the state shares come to the round as follows, so these are the masks
+    // that make the lane's first two blocks of them.
+    let sealing = links::next_sealing(&link, &report.message, &tape);
+    let at = shares::masks_at(call, round);
+    let (u, v): (Block, Block) =
+        (tape[at..at + 16].try_into().unwrap(), tape[at + 16..at + 32].try_into().unwrap());
+    let old = [u, v, xor_blocks(&u, &v)];
+    let mask_for = |i: usize, wanted: &Block| {
+        let share = sealing.calls[call - 1].rounds[round - 1].state_share(i % 3);
+        xor_blocks(&xor_blocks(&share, &old[i % 3]), wanted)
+    };
+    let (first, second) = (mask_for(lane + 1, &a), mask_for(lane + 2, &b));
+    let both = xor_blocks(&first, &second);
+    let (u, v) = match lane {
+        0 => (both, first),
+        1 => (second, both),
+        _ => (first, second),
+    };
+    put(&mut tape, at, &u);
+    put(&mut tape, at + 16, &v);
+    tape
+}
+
+fn put(bytes: &mut [u8], at: usize, what: &[u8]) {
+    bytes[at..at + what.len()].copy_from_slice(what);
+}
+
+/// Where in the tape the 48 bytes stand that decide over a lane.
+fn deciding_bytes(report: &Report) -> Vec<usize> {
+    let (call, round) = (report.call as usize, report.round as usize);
+    let masks = shares::masks_at(call, round);
+    let key_mask = shares::key_masks_at(call, report.message.len()) + if report.lane == 1 { 16 } else { 0 };
+    (masks..masks + 32).chain(key_mask..key_mask + 16).collect()
+}
+
+/// One lane tells nothing of link and message: another link and message of the same length show
+/// the same 48 bytes under one tape, which differs from the first in 48 bytes at most, and under
+/// no other such tape.
+pub fn one_tape(tally: &mut Tally) {
+    for length in [0, 1, 16, 20, 32] {
+        let calls = shares::call_count(length) as u32;
+        for call in 1..=calls {
+            for round in [1, 2, 3, 17, 34, 35] {
+                for lane in 0..3 {
+                    let number = (100 * call + 3 * round + lane) as usize;
+                    let first = Report { call, round, lane, ..good(tally, length, number) };
+                    let Report { link, message, .. } = good(tally, length, number + 10_000);
+                    hold_one_tape(tally, &first, &Report { link, message, ..first.clone() });
+                }
+            }
+        }
+    }
+}
+
+fn hold_one_tape(tally: &mut Tally, first: &Report, other: &Report) {
+    let Report { call, round, lane, .. } = *first;
+    let what = format!("{} bytes, call {call}, round {round}, lane {lane}", first.message.len());
+    let shown = hold_answer(tally, first, 0, 1).left.out;
+    let lane: Lane = shown.clone().try_into().unwrap();
+    let found = Report { tape: tape_that_shows(other, &lane), ..other.clone() };
+    let same = hold_answer(tally, &found, 0, 2).left.out;
+    tally.same(format_args!("the same lane under the tape found, {what}"), &same, &shown);
+
+    let deciding = deciding_bytes(first);
+    let elsewhere = (0..first.tape.len()).filter(|i| !deciding.contains(i));
+    let changed = elsewhere.filter(|i| found.tape[*i] != first.tape[*i]).count();
+    tally.same_number(format_args!("changed bytes elsewhere in the tape, {what}"), changed as u32, 0);
+
+    // Another value in any of the 48 bytes shows another lane; and for the first link the tape
+    // found is the one it had.
+    let mut random = tally.random_for(changed + call as usize);
+    for i in [random.pick(&deciding[..32]), random.pick(&deciding[32..])] {
+        let mut off = found.clone();
+        off.tape[i] ^= 1 << random.below(8);
+        let out = hold_answer(tally, &off, 0, 3).left.out;
+        tally.same_flag(format_args!("another lane with tape byte {i} changed, {what}"), out != shown, true);
+    }
+    let back = tape_that_shows(&Report { tape: found.tape, ..first.clone() }, &lane);
+    tally.same(format_args!("the first tape found again, {what}"), &back, &first.tape);
+}

@@ -1,0 +1,222 @@
+//! Long runs of all calls in turn, over links that are kept from call to call.
+
+use crate::keying::{KeyReceiver, KeySender};
+use crate::lanes::Report;
+use crate::lent::{hold, Call};
+use crate::links::{self, ADDED, LONGEST, RECEIVER, SENDER, SENDER_KEYS, SHARES};
+use crate::opening::Open;
+use crate::plain::SealPlain;
+use crate::random::Random;
+use crate::sealing::Seal;
+use crate::shares;
+use crate::tally::Tally;
+
+/// Calls made in all.
+const CALLS: usize = 25_000;
+/// Racks that run side by side.
+const RACKS: usize = 4;
+/// Records kept on the way from sender to receiver.
+const KEPT: usize = 12;
+
+/// Two links under one number and key, and what is on the way between them.
+struct Rack {
+    number: u32,
+    /// Three shares of KE, then of KM; the last that the sender was keyed with.
+    keys: Vec<u8>,
+    sender: Vec<u8>,
+    receiver: Vec<u8>,
+    records: Vec<Vec<u8>>,
+}
+
+impl Rack {
+    /// Two fresh links, all zeros.
+    fn fresh(number: u32, random: &mut Random) -> Rack {
+        Rack {
+            number,
+            keys: random.bytes(SENDER_KEYS),
+            sender: vec![0; SENDER],
+            receiver: vec![0; RECEIVER],
+            records: Vec::new(),
+        }
+    }
+
+    fn keep(&mut self, record: Vec<u8>) {
+        if self.records.len() == KEPT {
+            self.records.remove(0);
+        }
+        self.records.push(record);
+    }
+}
+
+/// A length of message: mostly short, often at an edge, now and then too long.
+fn length(random: &mut Random) -> usize {
+    match random.below(20) {
+        0 => 257 + random.below(60),
+        1 => random.below(LONGEST + 1),
+        2..=4 => random.pick(&links::EDGES),
+        _ => random.below(50),
+    }
+}
+
+/// A length near `enough`: mostly this or more, now and then less.
+fn room(random: &mut Random, enough: usize) -> usize {
+    match random.below(12) {
+        0 => enough.saturating_sub(1),
+        1 => random.below(enough + 1),
+        2..=6 => enough,
+        _ => enough + random.below(40),
+    }
+}
+
+/// Now and then cuts or lengthens a slice.
+fn disturb(random: &mut Random, slice: &mut Vec<u8>) {
+    match random.below(40) {
+        0 => slice.truncate(random.below(slice.len() + 1)),
+        1 => slice.push(random.number() as u8),
+        _ => (),
+    }
+}
+
+/// Makes a call and holds it; returns its slices where it was accepted.
+fn accepted<C: Call>(tally: &mut Tally, random: &mut Random, call: &C) -> Option<C> {
+    let done = hold(tally, call, random.number() as usize);
+    (done.answer == 0).then_some(done.left)
+}
+
+/// Keys both links anew, each now and then with material of a wrong length.
+fn key(tally: &mut Tally, random: &mut Random, rack: &mut Rack) {
+    let mut call =
+        KeySender { link: rack.sender.clone(), number: rack.number, keys: random.bytes(SENDER_KEYS) };
+    let fresh_keys = call.keys.clone();
+    disturb(random, &mut call.keys);
+    let Some(left) = accepted(tally, random, &call) else { return };
+    rack.sender = left.link;
+    rack.keys = fresh_keys;
+    rack.records.clear();
+    let joined = links::joined_keys(&rack.keys);
+    let mut call = KeyReceiver { link: rack.receiver.clone(), number: rack.number, keys: joined };
+    disturb(random, &mut call.keys);
+    if let Some(left) = accepted(tally, random, &call) {
+        rack.receiver = left.link;
+    }
+}
+
+/// Seals by shares. A plain sealing under the same number has to give the same record.
+fn seal(tally: &mut Tally, random: &mut Random, rack: &mut Rack) {
+    let length = length(random);
+    let tape = room(random, shares::tape_need(length));
+    let record = room(random, length + ADDED);
+    let shares = room(random, SHARES);
+    let call = Seal {
+        link: rack.sender.clone(),
+        message: random.bytes(length),
+        tape: random.bytes(tape),
+        record: random.bytes(record),
+        shares: random.bytes(shares),
+    };
+    let Some(left) = accepted(tally, random, &call) else { return };
+    rack.sender = left.link;
+    let record = left.record[..length + ADDED].to_vec();
+    let sequence = u32::from_be_bytes(record[4..8].try_into().unwrap());
+    let plain = SealPlain {
+        keys: links::joined_keys(&rack.keys),
+        number: rack.number,
+        sequence,
+        message: call.message,
+        record: vec![0; length + ADDED],
+    };
+    if let Some(left) = accepted(tally, random, &plain) {
+        tally.same(format_args!("plain and shared record, sequence {sequence}"), &left.record, &record);
+    }
+    rack.keep(record);
+}
+
+/// Seals plainly, with a number of its own near the sender's last.
+fn seal_plain(tally: &mut Tally, random: &mut Random, rack: &mut Rack) {
+    let length = length(random);
+    let last = u32::from_be_bytes(rack.sender[5..9].try_into().unwrap());
+    let record = room(random, length + ADDED);
+    let mut call = SealPlain {
+        keys: links::joined_keys(&rack.keys),
+        number: rack.number,
+        sequence: last.wrapping_add(random.below(5) as u32).wrapping_sub(2),
+        message: random.bytes(length),
+        record: random.bytes(record),
+    };
+    disturb(random, &mut call.keys);
+    if let Some(left) = accepted(tally, random, &call) {
+        rack.keep(left.record[..length + ADDED].to_vec());
+    }
+}
+
+/// Opens one of the records on the way, most often the newest, whole or damaged.
+fn open(tally: &mut Tally, random: &mut Random, rack: &mut Rack) {
+    let mut record = match rack.records.len() {
+        0 => random.bytes(60),
+        count if random.below(3) > 0 => rack.records[count - 1].clone(),
+        count => rack.records[random.below(count)].clone(),
+    };
+    disturb(random, &mut record);
+    if !record.is_empty() && random.below(6) == 0 {
+        let i = random.below(record.len());
+        record[i] ^= 1 << random.below(8);
+    }
+    let message = room(random, record.len().saturating_sub(ADDED));
+    let call = Open { link: rack.receiver.clone(), record, message: random.bytes(message) };
+    if let Some(left) = accepted(tally, random, &call) {
+        rack.receiver = left.link;
+    }
+}
+
+/// Reports a lane of the next sealing.
+fn report(tally: &mut Tally, random: &mut Random, rack: &Rack) {
+    let length = length(random);
+    let tape = room(random, shares::tape_need(length));
+    let out = room(random, links::LANE);
+    let call = Report {
+        link: rack.sender.clone(),
+        message: random.bytes(length),
+        tape: random.bytes(tape),
+        call: random.below(shares::call_count(length) + 2) as u32,
+        round: random.below(38) as u32,
+        lane: random.below(4) as u32,
+        out: random.bytes(out),
+    };
+    accepted(tally, random, &call);
+}
+
+/// Brings a rack near the end of its numbers, or makes its links unkeyed again.
+fn upset(random: &mut Random, rack: &mut Rack) {
+    let last = u32::MAX - random.below(4) as u32;
+    match random.below(5) {
+        0 | 1 => links::set_last(&mut rack.sender, last),
+        2 => links::set_last(&mut rack.receiver, last),
+        3 => rack.sender[0] = random.number() as u8,
+        _ => rack.receiver[0] = random.number() as u8,
+    }
+}
+
+/// All calls, mixed, over links kept from call to call.
+pub fn mixed(tally: &mut Tally) {
+    let mut random = tally.random();
+    let numbers = [0, 1, 0x0102_0304, u32::MAX];
+    let mut racks: Vec<Rack> = (0..RACKS).map(|i| Rack::fresh(numbers[i], &mut random)).collect();
+    for step in 0..CALLS {
+        let i = random.below(RACKS);
+        let rack = &mut racks[i];
+        match random.below(100) {
+            0..=2 => key(tally, &mut random, rack),
+            3 => upset(&mut random, rack),
+            4..=33 => seal(tally, &mut random, rack),
+            34..=43 => seal_plain(tally, &mut random, rack),
+            44..=83 => open(tally, &mut random, rack),
+            _ => report(tally, &mut random, rack),
+        }
+        // A record of another rack, now and then.
+        if step % 50 == 0 {
+            if let Some(record) = racks[(i + 1) % RACKS].records.first().cloned() {
+                racks[i].keep(record);
+            }
+        }
+    }
+}
