@@ -78,12 +78,10 @@ pub fn same_at(block: [u8; 16], s: &[u8], at: usize) -> bool
     ensures { λ r. ⌜ r ≡ sameBytes block (part at 16 (now (s .entry))) ⌝ }
 {
     let mut same = true;
-    let mut i = 0;
-    while i < 16 {
+    for i in 0..16 {
         if block[i] != s[at + i] {
             same = false;
         }
-        i += 1;
     }
     same
 }
