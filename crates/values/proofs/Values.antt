@@ -8,4 +8,4 @@ use Rattle.values.specs.Values.{rows, Hold}
 
 pub values-hold : Hold rows
 unfolding bit blockOf bitAt rearranged doubled _⊕_
-values-hold = (refl, (refl, (refl, (refl, (refl, (refl, (refl, (refl, tt))))))))
+values-hold = (refl, (refl, (refl, (refl, (refl, (refl, (refl, (refl, (refl, (refl, (refl, (refl, tt))))))))))))
