@@ -1,8 +1,6 @@
-pub mod Calls
-pub mod Shape
-pub mod Causal
-pub mod Joins
-pub mod Accepted
-pub mod Lanes
-pub mod OneTape
-pub mod Demand
+pub mod Texts
+pub mod Stream
+pub mod Walking
+pub mod Refusals
+pub mod Answers
+pub mod Reporting

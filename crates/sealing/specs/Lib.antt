@@ -1,5 +1,2 @@
-pub mod Calls
-pub mod Sealed
-pub mod Plain
-pub mod Entry
-pub mod Demand
+pub mod Says
+pub mod Walk

@@ -10,7 +10,7 @@ use Rattle.blocks.specs.Bits.{blockOf}
 use Rattle.baksheesh.specs.Baksheesh.{sbox, invSbox, cellOf, permBits, rotated}
 use Rattle.modes.specs.Cmac.{doubled}
 use Rattle.shares.specs.Sbox.{shareBit}
-use Rattle.sealing.specs.Calls.{tapeNeed}
+use Rattle.calls.specs.Calls.{tapeNeed}
 
 -- the block with only bit i set
 abbrev pub onlyBit : ℕ → List ℕ

@@ -1,0 +1,79 @@
+-- When sealing and the report are done: no cause of a refusal applies. Assumes nothing.
+use mathlib.Core.Path.{_≡_, ap}
+use mathlib.Core.Bool.{true, not}
+use mathlib.Core.List.{List, [], _∷_}
+use Prim.Native.Nat.{ℕ, _≤_, _<_}
+use native.Mathlib.Omega.{arith}
+use lib.ListN.{length, drop}
+use borrow.Author.Tests.{ltb-false, eqb-false, not-false, lt-ltb, le-ltb, eq-eqb, ne-eqb}
+use Rattle.baksheesh.specs.Baksheesh.{rounds}
+use Rattle.modes.specs.Pieces.{blockCount}
+use Rattle.answers.specs.Answer.{Cause, done, NoneOf}
+use Rattle.answers.proofs.First.{done-none, none-done}
+use Rattle.links.specs.Record.{longest, recordSize}
+use Rattle.links.specs.declared.Sender.{Sender}
+use Rattle.plain.specs.Entry.{plainKeys, plainCauses, plainAnswer}
+use Rattle.calls.specs.Calls.{callCount, tapeNeed}
+use Rattle.calls.specs.Entry.{inputCauses, sealCauses, sealAnswer, laneSize, reportCauses, hasLane, reportAnswer}
+use Rattle.calls.specs.Demand.{Accepted}
+
+infixr 20 _also_
+_also_ : {A B : Type 0} → A → B → A × B
+a also b = (a, b)
+
+-- what sealing and the report ask alike
+pub record Sealable (x : Sender) (m t : List ℕ) : Type 0 where
+  pub keyed : x .keyed ≡ true
+  pub left : x .last ≡ 4294967295 → ⊥
+  pub small : length m ≤ longest
+  pub long : tapeNeed (length m) ≤ length t
+
+module _ (x : Sender) (m t : List ℕ) where
+  sealable-none : (cs : List Cause) → Sealable x m t → NoneOf cs → NoneOf (inputCauses x m t cs)
+  sealable-none cs S h =
+      ap not (S .keyed) also ne-eqb (x .last) 4294967295 (S .left) also le-ltb longest (length m) (S .small)
+      also le-ltb (length t) (tapeNeed (length m)) (S .long) also h
+
+  none-sealable : (cs : List Cause) → NoneOf (inputCauses x m t cs) → Sealable x m t
+  none-sealable cs h = record {
+    keyed = not-false (x .keyed) (h .0);
+    left = eqb-false (x .last) 4294967295 (h .1 .0);
+    small = ltb-false longest (length m) (h .1 .1 .0);
+    long = ltb-false (length t) (tapeNeed (length m)) (h .1 .1 .1 .0);
+  }
+
+  -- ---- sealing
+
+  pub accepted : (o : ℕ) → Sealable x m t → recordSize (length m) ≤ o → Accepted x m t o
+  unfolding sealAnswer
+  accepted o S h = done-none (sealCauses x m t o) _ (sealable-none (drop 4 (sealCauses x m t o)) S (le-ltb o (recordSize (length m)) h also tt))
+
+  module _ (o : ℕ) (A : Accepted x m t o) where
+    none : NoneOf (sealCauses x m t o)
+    unfolding sealAnswer
+    none = none-done (sealCauses x m t o) _ _ A
+
+    pub sealable : Sealable x m t
+    sealable = none-sealable (drop 4 (sealCauses x m t o)) none
+
+    pub room : recordSize (length m) ≤ o
+    room = ltb-false o (recordSize (length m)) (none .1 .1 .1 .1 .0)
+
+    -- plain sealing is done as well
+    pub plain-done : (keys : List ℕ) (s : ℕ) → length keys ≡ plainKeys → 0 < s → plainAnswer keys s m o ≡ done (recordSize (length m) ∷ [])
+    unfolding plainAnswer
+    plain-done keys s e h =
+        done-none (plainCauses keys s m o) _
+        (ap not (eq-eqb (length keys) plainKeys e) also ne-eqb s 0 (λ z. omega arith) also none .1 .1 .0 also none .1 .1 .1 .1)
+
+  -- ---- the report
+
+  pub reported : (k r i o : ℕ) → Sealable x m t → 1 ≤ k → k ≤ callCount (blockCount (length m)) → 1 ≤ r → r ≤ rounds → i < 3 → laneSize ≤ o
+      → reportAnswer x m t k r i o ≡ done []
+  unfolding reportAnswer
+  reported k r i o S k₁ kₙ r₁ rₙ i₂ h =
+      done-none (reportCauses x m t k r i o) (done []) (sealable-none (drop 4 (reportCauses x m t k r i o)) S
+      (ap not has also le-ltb o laneSize h also tt))
+    where
+      has : hasLane (length m) k r i ≡ true
+      has = simp (ne-eqb k 0 (λ e. omega arith), le-ltb (callCount (blockCount (length m))) k kₙ, ne-eqb r 0 (λ e. omega arith), le-ltb rounds r rₙ, lt-ltb i 3 i₂)

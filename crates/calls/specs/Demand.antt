@@ -1,0 +1,70 @@
+-- The words of the statements on sealing: what is accepted, what a probed lane shows, and what its parts join to.
+-- Assumes nothing.
+use mathlib.Core.Path.{_≡_}
+use mathlib.Core.List.{List, [], _∷_, _++_}
+use Prim.Native.Nat.{ℕ, _+_, _-_, _*_, _%_, _^_, _<_}
+use lib.ListN.{length, replicate}
+use Rattle.blocks.specs.Bytes.{Bytes, _⊕_}
+use Rattle.blocks.specs.Put.{part}
+use Rattle.answers.specs.Answer.{done}
+use Rattle.modes.specs.Pieces.{blockCount}
+use Rattle.links.specs.Record.{numberSize, sequenceSize, recordSize}
+use Rattle.links.specs.declared.Sender.{Sender}
+use Rattle.shares.specs.Shares.{join, sharesIn}
+use Rattle.shares.specs.Tape.{pairSize}
+use Rattle.shares.specs.OneTape.{Alike, laneMask}
+use Rattle.calls.specs.Calls.{callOf, keyAt, callAt, tapeNeed}
+use Rattle.calls.specs.Plain.{plainState, plainKey}
+use Rattle.calls.specs.Entry.{sealAnswer, indexOf, laneSize, reportOutput}
+
+-- what the fields of a sending link can hold
+pub record Formed (x : Sender) : Type 0 where
+  pub number : x .number < 256 ^ numberSize
+  pub last : x .last < 256 ^ sequenceSize
+  pub ke-size : length (x .ke) ≡ 48
+  pub ke-bytes : Bytes (x .ke)
+  pub km-size : length (x .km) ≡ 48
+  pub km-bytes : Bytes (x .km)
+
+-- sealing the message m on the link x with the tape t and room for o bytes is accepted
+abbrev pub Accepted : Sender → List ℕ → List ℕ → ℕ → Type 0
+Accepted x m t o = sealAnswer x m t o ≡ done (recordSize (length m) ∷ tapeNeed (length m) ∷ [])
+
+-- the keys that the link's shares join to: KE, then KM
+abbrev pub joinedKE : Sender → List ℕ
+joinedKE x = join (sharesIn (x .ke))
+
+abbrev pub joinedKM : Sender → List ℕ
+joinedKM x = join (sharesIn (x .km))
+
+-- the 48 bytes that the report of lane i of call k, round r writes
+abbrev pub shown : Sender → List ℕ → List ℕ → ℕ → ℕ → ℕ → List ℕ
+shown x m t k r i = reportOutput x m t k r i (replicate laneSize 0)
+
+-- where the masks of round r of call k stand, and lane i's key mask bytes, in a sealing of n blocks
+abbrev pub masksOf : ℕ → ℕ → ℕ
+masksOf k r = callAt k + pairSize * (r - 1)
+
+abbrev pub keyMaskOf : ℕ → ℕ → ℕ → ℕ
+keyMaskOf n k i = laneMask (keyAt (callOf n k)) (indexOf i)
+
+-- w is a tape of bytes as long as t that differs from it at most in the round's 32 mask bytes and in the lane's 16 key mask bytes;
+-- sealing m′ on y with it is accepted, and the report shows the lane that it shows of m on x with t
+pub record SameLane (x : Sender) (m t : List ℕ) (y : Sender) (m′ : List ℕ) (o k r i : ℕ) (w : List ℕ) : Type 0 where
+  pub as-long : length w ≡ length t
+  pub all-bytes : Bytes w
+  pub elsewhere : Alike (keyMaskOf (blockCount (length m)) k i) (masksOf k r) w t
+  pub accepted : Accepted y m′ w o
+  pub same : shown y m′ w k r i ≡ shown x m t k r i
+
+-- the three lanes of round r of call k
+pub record Joined (x : Sender) (m t : List ℕ) (k r : ℕ) : Type 0 where
+  pub sized : (i : ℕ) → i < 3 → length (shown x m t k r i) ≡ laneSize
+  -- a state share stands in two lanes with the same bytes; so the first of each lane are the three distinct ones
+  pub twice : (i : ℕ) → i < 3 → part 16 16 (shown x m t k r i) ≡ part 0 16 (shown x m t k r ((i + 1) % 3))
+  -- they XOR to the plain cipher's state on entering the round
+  pub states : part 0 16 (shown x m t k r 0) ⊕ (part 0 16 (shown x m t k r 1) ⊕ part 0 16 (shown x m t k r 2))
+      ≡ plainState (joinedKE x) (joinedKM x) (x .number) (x .last + 1) m k r
+  -- and the key shares to the key that it adds at the round's end
+  pub keys : part 32 16 (shown x m t k r 0) ⊕ (part 32 16 (shown x m t k r 1) ⊕ part 32 16 (shown x m t k r 2))
+      ≡ plainKey (joinedKE x) (joinedKM x) (x .number) (x .last + 1) m k r

@@ -1,0 +1,74 @@
+-- What shared sealing and the lane report answer, the link and the shares that come back, and the outputs at their end.
+-- Assumes nothing.
+use mathlib.Core.Bool.{Bool, not, _&&_}
+use mathlib.Core.List.{List, [], _∷_, _++_}
+use Prim.Native.Nat.{ℕ, zero, suc, _+_}
+use lib.Dec.{eqb, ltb}
+use lib.ListN.{length, replicate}
+use Rattle.answers.specs.Answer.{Answer, done, refused, Cause, _when_, first, ifDone, output}
+use Rattle.baksheesh.specs.Baksheesh.{rounds}
+use Rattle.modes.specs.Pieces.{blockCount}
+use Rattle.links.specs.Record.{longest, recordSize}
+use Rattle.links.specs.declared.Sender.{Sender}
+use Rattle.shares.specs.Shares.{Index, i₀, i₁, i₂, flat}
+use Rattle.shares.specs.Tape.{at}
+use Rattle.calls.specs.Calls.{callCount, tapeNeed}
+use Rattle.calls.specs.Sealed.{tagShares, sealedRecord, laneOf}
+
+-- ---- sealing the message m on the link x with the tape t, with room for o bytes
+
+-- the causes that sealing and the report share
+abbrev pub inputCauses : Sender → List ℕ → List ℕ → List Cause → List Cause
+inputCauses x m t cs =
+    (20 when not (x .keyed))
+    ∷ (21 when eqb (x .last) 4294967295)
+    ∷ (2 when ltb longest (length m))
+    ∷ (3 when ltb (length t) (tapeNeed (length m)))
+    ∷ cs
+
+abbrev pub sealCauses : Sender → List ℕ → List ℕ → ℕ → List Cause
+sealCauses x m t o = inputCauses x m t ((4 when ltb o (recordSize (length m))) ∷ [])
+
+-- the length of the record, and the tape bytes read
+unfoldable pub sealAnswer : Sender → List ℕ → List ℕ → ℕ → Answer
+sealAnswer x m t o = first (sealCauses x m t o) (done (recordSize (length m) ∷ tapeNeed (length m) ∷ []))
+
+-- the link with its next number used
+abbrev pub advanced : Sender → Sender
+advanced x = record { keyed = x .keyed; number = x .number; last = x .last + 1; ke = x .ke; km = x .km }
+
+abbrev pub sealLink : Sender → List ℕ → List ℕ → ℕ → Sender
+sealLink x m t o = ifDone (sealAnswer x m t o) (advanced x) x
+
+abbrev pub sealShares : Sender → List ℕ → List ℕ → ℕ → List ℕ
+sealShares x m t o = ifDone (sealAnswer x m t o) (flat (tagShares x m (at t))) (replicate 48 0)
+
+abbrev pub sealOutput : Sender → List ℕ → List ℕ → List ℕ → List ℕ
+sealOutput x m t o = output (sealAnswer x m t (length o)) (sealedRecord x m (at t)) o
+
+-- ---- the report of lane i of call k, round r, of the sealing that the link would do next
+
+abbrev pub laneSize : ℕ
+laneSize = 48
+
+-- a sealing of a message of n bytes has lane i of call k, round r: calls and rounds are numbered from 1, lanes from 0
+abbrev pub hasLane : ℕ → ℕ → ℕ → ℕ → Bool
+hasLane n k r i = not (eqb k 0) && not (ltb (callCount (blockCount n)) k) && not (eqb r 0) && not (ltb rounds r) && ltb i 3
+
+abbrev pub reportCauses : Sender → List ℕ → List ℕ → ℕ → ℕ → ℕ → ℕ → List Cause
+reportCauses x m t k r i o =
+    inputCauses x m t
+    ((6 when not (hasLane (length m) k r i))
+    ∷ (4 when ltb o laneSize)
+    ∷ [])
+
+unfoldable pub reportAnswer : Sender → List ℕ → List ℕ → ℕ → ℕ → ℕ → ℕ → Answer
+reportAnswer x m t k r i o = first (reportCauses x m t k r i o) (done [])
+
+abbrev pub indexOf : ℕ → Index
+indexOf zero = i₀
+indexOf (suc zero) = i₁
+indexOf (suc (suc n)) = i₂
+
+abbrev pub reportOutput : Sender → List ℕ → List ℕ → ℕ → ℕ → ℕ → List ℕ → List ℕ
+reportOutput x m t k r i o = output (reportAnswer x m t k r i (length o)) (laneOf x m (at t) k r (indexOf i)) o

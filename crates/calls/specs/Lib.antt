@@ -1,0 +1,5 @@
+pub mod Calls
+pub mod Sealed
+pub mod Plain
+pub mod Entry
+pub mod Demand

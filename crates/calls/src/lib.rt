@@ -1,0 +1,1 @@
+// Shared sealing by its numbered calls, as definitions: specs/.

@@ -1,0 +1,198 @@
+/*
+ * Rasppuce: seals time marks on a sending link and opens them on a receiving one.
+ *
+ * A message of at most 256 bytes becomes a record: link number, sequence number, ciphertext, tag.
+ * The cipher is BAKSHEESH, the modes are CTR (NIST SP 800-38A) and CMAC (NIST SP 800-38B).
+ * rasppuce_seal works on three XOR shares of each key, masked by a tape of random bytes;
+ * rasppuce_seal_plain works on the keys themselves and gives the same records.
+ *
+ * For every call:
+ *
+ * - A slice is a pointer and a length in bytes. The pointer may be NULL only where the length is
+ *   0; otherwise that many bytes have to stand there.
+ * - A slice that a call may write must not overlap any other slice of the same call. Those it
+ *   only reads are const, and may overlap each other.
+ * - It returns RASPPUCE_OK or the number of one refusal: of those listed with the call, the first
+ *   that applies, in the order listed. Nothing else makes it refuse.
+ * - A refusal leaves every byte that was lent as it was.
+ * - Success writes what is said here and leaves the rest of a longer slice untouched.
+ * - It keeps nothing: what lasts from call to call is in the bytes of the link.
+ * - Multi-byte numbers in links, records and counts are big-endian.
+ */
+#ifndef RASPPUCE_H
+#define RASPPUCE_H
+
+#include <stddef.h>
+#include <stdint.h>
+
+#ifdef __cplusplus
+extern "C" {
+#endif
+
+/* ---- answers: success, refusals from the input (1 to 10), refusals from the link's state */
+
+#define RASPPUCE_OK            0u /* done */
+#define RASPPUCE_KEYS          1u /* key material isn't 96 bytes (sender) or 32; in keying, also
+                                     a link slice of a wrong length */
+#define RASPPUCE_MESSAGE       2u /* message over 256 bytes */
+#define RASPPUCE_TAPE          3u /* tape under the need */
+#define RASPPUCE_OUTPUT        4u /* output shorter than the result */
+#define RASPPUCE_BLOCK         5u /* a block call's key, input or output isn't 16 bytes */
+#define RASPPUCE_LANE          6u /* call not in 1 to 2n+2, round or lane out of range */
+#define RASPPUCE_RECORD        7u /* record not 24 to 280 bytes */
+#define RASPPUCE_OTHER_LINK    8u /* the record has another link number */
+#define RASPPUCE_TAG           9u /* wrong tag */
+#define RASPPUCE_SEQUENCE     10u /* sequence number 0 in plain sealing */
+#define RASPPUCE_NOT_KEYED    20u /* the link isn't keyed, or its slice has a wrong length */
+#define RASPPUCE_NUMBERS_USED 21u /* the sender's last number is 4294967295, so none is left */
+#define RASPPUCE_OLD_NUMBER   22u /* the record's number isn't above the last accepted one */
+
+/* ---- sizes in bytes */
+
+#define RASPPUCE_BLOCK_BYTES         16u  /* a block, and a key of the cipher */
+#define RASPPUCE_SENDER_BYTES        105u /* a sending link */
+#define RASPPUCE_RECEIVER_BYTES      41u  /* a receiving link */
+#define RASPPUCE_SENDER_KEY_BYTES    96u  /* three shares of KE, then three of KM */
+#define RASPPUCE_RECEIVER_KEY_BYTES  32u  /* KE, then KM; for plain sealing too */
+#define RASPPUCE_MESSAGE_MOST        256u /* the longest message */
+#define RASPPUCE_RECORD_ADDS         24u  /* what a record has more than its message */
+#define RASPPUCE_RECORD_MOST         280u /* the longest record */
+#define RASPPUCE_TAG_BYTES           16u  /* a record's tag, at its end */
+#define RASPPUCE_SHARES_BYTES        52u  /* three tag shares and the tape count */
+#define RASPPUCE_LANE_BYTES          48u  /* one reported lane */
+#define RASPPUCE_TAPE_MOST           38144u /* the tape for the longest message */
+
+/* For a message of m bytes: how many calls of the cipher a sealing makes, and the tape it needs. */
+#define RASPPUCE_CALLS(m)      (2u * (((size_t)(m) + 15u) / 16u) + 2u)
+#define RASPPUCE_TAPE_BYTES(m) (64u + 1120u * RASPPUCE_CALLS(m))
+
+/* The last round that a report can show, and the last lane; rounds count from 1, lanes from 0. */
+#define RASPPUCE_LAST_ROUND 35u
+#define RASPPUCE_LAST_LANE  2u
+
+/* ---- links
+ *
+ * A link is bytes of the host, which keeps them between calls and lends them to each:
+ *
+ *     byte 0        1 if the link is keyed; anything else if not, so all zeros is a fresh link
+ *     bytes 1 to 4  link number
+ *     bytes 5 to 8  last number: the last one used (sender) or accepted (receiver)
+ *     bytes 9 on    keys: 96 bytes for a sender, 32 for a receiver
+ *
+ * Only the calls below should change them. The bytes hold the keys: treat them as secret.
+ */
+
+/*
+ * Keys a sending link with a number and 96 bytes: three shares of KE, then three of KM, each of 16
+ * bytes. A key is the XOR of its shares. Whatever the link was before, it is keyed afterwards, its
+ * last number is 0, and the first record will be number 1.
+ *
+ * Never key twice with the same keys and number: the sequence numbers would begin again, and with
+ * them the same key stream.
+ *
+ * Refuses: RASPPUCE_KEYS (link not 105 bytes or keys not 96).
+ */
+uint32_t rasppuce_key_sender(uint8_t *link, size_t link_len, uint32_t number,
+                             const uint8_t *keys, size_t keys_len);
+
+/*
+ * Keys a receiving link with a number and 32 bytes: KE, then KM. Its last number is 0 afterwards.
+ * Keying again with the same keys lets old records in again.
+ *
+ * Refuses: RASPPUCE_KEYS (link not 41 bytes or keys not 32).
+ */
+uint32_t rasppuce_key_receiver(uint8_t *link, size_t link_len, uint32_t number,
+                               const uint8_t *keys, size_t keys_len);
+
+/*
+ * Seals a message on a sending link, on shares, under the next sequence number.
+ *
+ * tape    random bytes, RASPPUCE_TAPE_BYTES(message_len) of them; the rest of a longer tape isn't
+ *         read. Use fresh ones for each sealing. The record doesn't depend on them.
+ * record  gets message_len + 24 bytes: link number (4), sequence number (4), ciphertext, tag (16).
+ * shares  gets 52 bytes: tag shares 0, 1, 2 of 16 bytes each, which XOR to the tag, then the
+ *         number of tape bytes read (4).
+ * link    its last number goes up by one; nothing else in it changes.
+ *
+ * Refuses, and then uses no number: RASPPUCE_NOT_KEYED, RASPPUCE_NUMBERS_USED, RASPPUCE_MESSAGE,
+ * RASPPUCE_TAPE, RASPPUCE_OUTPUT (record shorter than message_len + 24, or shares than 52).
+ */
+uint32_t rasppuce_seal(uint8_t *link, size_t link_len,
+                       const uint8_t *message, size_t message_len,
+                       const uint8_t *tape, size_t tape_len,
+                       uint8_t *record, size_t record_len,
+                       uint8_t *shares, size_t shares_len);
+
+/*
+ * Opens a record on a receiving link.
+ *
+ * message  gets the record_len - 24 bytes that were sealed.
+ * link     its last number becomes the record's; nothing else in it changes.
+ *
+ * Refuses: RASPPUCE_NOT_KEYED, RASPPUCE_RECORD, RASPPUCE_OTHER_LINK, RASPPUCE_OUTPUT (message
+ * shorter than record_len - 24), RASPPUCE_OLD_NUMBER, RASPPUCE_TAG.
+ */
+uint32_t rasppuce_open(uint8_t *link, size_t link_len,
+                       const uint8_t *record, size_t record_len,
+                       uint8_t *message, size_t message_len);
+
+/*
+ * Seals a message plainly: 32 bytes of keys (KE, then KM), the link number and the sequence number
+ * to use. The record is the one that rasppuce_seal makes on a link of that number whose shares XOR
+ * to these keys and whose next number is that sequence number.
+ *
+ * The host has to see to it that no sequence number is used twice under the same keys and number.
+ *
+ * record  gets message_len + 24 bytes.
+ *
+ * Refuses: RASPPUCE_KEYS (not 32 bytes), RASPPUCE_SEQUENCE, RASPPUCE_MESSAGE, RASPPUCE_OUTPUT.
+ */
+uint32_t rasppuce_seal_plain(const uint8_t *keys, size_t keys_len,
+                             uint32_t number, uint32_t sequence,
+                             const uint8_t *message, size_t message_len,
+                             uint8_t *record, size_t record_len);
+
+/*
+ * Shows one lane of the sealing that the link would do next with this message and tape: all that a
+ * round works on to make one share of the state. The link stays as it is.
+ *
+ * call   1 to RASPPUCE_CALLS(message_len); for n blocks of message, calls 1 to n make the key
+ *        stream, call n+1 the subkeys, calls n+2 to 2n+2 the tag
+ * round  1 to 35
+ * lane   0 to 2
+ * out    gets 48 bytes: state shares lane+1 and lane+2 (counted modulo 3), then key share lane as
+ *        the round adds it
+ *
+ * Refuses: RASPPUCE_NOT_KEYED, RASPPUCE_NUMBERS_USED, RASPPUCE_MESSAGE, RASPPUCE_TAPE,
+ * RASPPUCE_LANE, RASPPUCE_OUTPUT (shorter than 48).
+ */
+uint32_t rasppuce_report(const uint8_t *link, size_t link_len,
+                         const uint8_t *message, size_t message_len,
+                         const uint8_t *tape, size_t tape_len,
+                         uint32_t call, uint32_t round, uint32_t lane,
+                         uint8_t *out, size_t out_len);
+
+/* ---- the block cipher alone
+ *
+ * Key, input and output are 16 bytes each. Both engines, by table and by packed words, do the same.
+ *
+ * Refuses: RASPPUCE_BLOCK.
+ */
+uint32_t rasppuce_encrypt_table(const uint8_t *key, size_t key_len,
+                                const uint8_t *input, size_t input_len,
+                                uint8_t *output, size_t output_len);
+uint32_t rasppuce_decrypt_table(const uint8_t *key, size_t key_len,
+                                const uint8_t *input, size_t input_len,
+                                uint8_t *output, size_t output_len);
+uint32_t rasppuce_encrypt_packed(const uint8_t *key, size_t key_len,
+                                 const uint8_t *input, size_t input_len,
+                                 uint8_t *output, size_t output_len);
+uint32_t rasppuce_decrypt_packed(const uint8_t *key, size_t key_len,
+                                 const uint8_t *input, size_t input_len,
+                                 uint8_t *output, size_t output_len);
+
+#ifdef __cplusplus
+}
+#endif
+
+#endif
