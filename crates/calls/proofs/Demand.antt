@@ -13,7 +13,7 @@ use Rattle.blocks.specs.Put.{part, put}
 use Rattle.blocks.proofs.Xor.{bytes-take, bytes-drop, bytes-replicate}
 use Rattle.baksheesh.specs.Baksheesh.{rounds}
 use Rattle.answers.specs.Answer.{done, refused, FirstOf}
-use Rattle.answers.proofs.First.{if-done, first-refused, refused-first}
+use Rattle.answers.proofs.First.{if-done, if-refused, first-refused, refused-first}
 use Rattle.modes.specs.Pieces.{blockCount}
 use Rattle.links.specs.Record.{numberSize, longest, recordSize}
 use Rattle.links.specs.Links.{senderKeys, senderOf}
@@ -28,7 +28,7 @@ use Rattle.shares.proofs.Causal.{Agree, state-agree}
 use Rattle.shares.proofs.Tape.{take-agree}
 use Rattle.calls.specs.Calls.{numberOf, callOf, callCount, callAt, tapeNeed}
 use Rattle.calls.specs.Sealed.{keyShares, inputOf, sealedRecord, laneOf}
-use Rattle.calls.specs.Entry.{sealCauses, sealAnswer, sealShares, advanced, sealOutput, reportCauses, reportAnswer, indexOf}
+use Rattle.calls.specs.Entry.{sealCauses, sealAnswer, sealLink, sealShares, advanced, sealOutput, reportCauses, reportAnswer, reportOutput, indexOf}
 use Rattle.calls.specs.Demand.{Formed, Accepted, joinedKE, joinedKM, shown, masksOf, SameLane, Joined}
 use Rattle.calls.proofs.Calls.{number-call}
 use Rattle.calls.proofs.Shape.{ke-block, km-block}
@@ -142,3 +142,13 @@ seal-refused-exactly x m t o n = (first-refused n (sealCauses x m t o) _, refuse
 pub report-refused-exactly : (x : Sender) (m t : List ℕ) (k r i o n : ℕ) → reportAnswer x m t k r i o ≡ refused n ↔ FirstOf n (reportCauses x m t k r i o)
 unfolding reportAnswer
 report-refused-exactly x m t k r i o n = (first-refused n (reportCauses x m t k r i o) [], refused-first n (reportCauses x m t k r i o) (done []))
+
+-- ---- a refusal leaves the link and every lent byte as they came
+
+pub refused-unchanged : (x : Sender) (m t o : List ℕ) (n : ℕ) → sealAnswer x m t (length o) ≡ refused n
+    → (sealLink x m t (length o) ≡ x) × (sealOutput x m t o ≡ o)
+refused-unchanged x m t o n e = (sym (if-refused e (advanced x) x), sym (if-refused e (put 0 (sealedRecord x m (at t)) o) o))
+
+pub unreported-unchanged : (x : Sender) (m t : List ℕ) (k r i : ℕ) (o : List ℕ) (n : ℕ) → reportAnswer x m t k r i (length o) ≡ refused n
+    → reportOutput x m t k r i o ≡ o
+unreported-unchanged x m t k r i o n e = sym (if-refused e (put 0 (laneOf x m (at t) k r (indexOf i)) o) o)
