@@ -1,0 +1,36 @@
+-- `rasppuce_open` meets its contract, by that of opening. Assumes nothing.
+use mathlib.Core.Path.{sym, _∙_}
+use borrow.Author.Needs.{needs}
+use Rattle.rasppuce.proofs.Calls.{link-size, told, opened, not-opened}
+use Rattle.rasppuce.proofs.receiving.rasppuce_open.Statement.{statement}
+use Rattle.rasppuce.proofs.receiving.rasppuce_open.Tie as tie
+
+store-receiver-requires : tie.Need-store-receiver-requires
+store-receiver-requires c κs =
+    let number = c .before .before .before in
+    let work = number .before .before .before in
+    let link = work .before .before in
+    let a = link .before .before .before .before .before .args in
+    link-size _ _ (a .link .now) (sym (told (a .link .now) _ (a .out .now) (link .load-receiver .ensures) (work .«open» .ensures) (number .open-number .ensures)) ∙ c .before .before .if1 .taken)
+
+returns : tie.Need-returns
+returns c =
+    let number = c .before .before .before .before .before .before in
+    let work = number .before .before .before in
+    let link = work .before .before in
+    let a = link .before .before .before .before .before .args in
+    opened (a .link .now) _ (a .out .now) (link .load-receiver .ensures) (work .«open» .ensures) (number .open-number .ensures) (search needs) (c .before .before .store-receiver .ensures)
+
+returns-2 : tie.Need-returns-2
+returns-2 c =
+    let number = c .before in
+    let work = number .before .before .before in
+    let link = work .before .before in
+    let a = link .before .before .before .before .before .args in
+    not-opened (a .link .now) _ (a .out .now) (link .load-receiver .ensures) (work .«open» .ensures) (number .open-number .ensures) (c .if1 .left)
+
+pub rasppuce-open-spec : {M : Type 1} → statement M
+rasppuce-open-spec =
+    tie.close
+    (tie.spec (λ c κs. search needs) (λ c κs. search needs) (λ c κs. search needs) store-receiver-requires (λ c. search needs) (λ c. search needs)
+    returns (λ c. search needs) (λ c. search needs) returns-2)
