@@ -120,8 +120,34 @@ static void print_mask(const char *name, const uint8_t *was, const uint8_t *is)
 
 static sealing ours, theirs;
 
+/* ---- the cipher */
+
+/* A published vector, encrypted by both engines and decrypted again. */
+static void show_cipher(void)
+{
+    static const uint8_t key[BLOCK] = {0x59, 0x20, 0xef, 0xfb, 0x52, 0xbc, 0x61, 0xe3,
+                                       0x3a, 0x98, 0x42, 0x53, 0x21, 0xe7, 0x69, 0x15};
+    static const uint8_t block[BLOCK] = {0xe6, 0x51, 0x75, 0x31, 0xab, 0xf6, 0x3f, 0x3d,
+                                         0x78, 0x05, 0xe1, 0x26, 0x94, 0x3a, 0x08, 0x1c};
+    static const uint8_t published[BLOCK] = {0xfc, 0x7e, 0x61, 0xfe, 0xe3, 0xd5, 0x87, 0x30,
+                                             0x8c, 0xa7, 0xbc, 0x59, 0x4e, 0xbf, 0x32, 0x44};
+    uint8_t table[BLOCK], packed[BLOCK], again[BLOCK], back[BLOCK];
+    printf("0. The cipher BAKSHEESH on a published vector\n");
+    int done = rasppuce_encrypt_table(key, BLOCK, block, BLOCK, table, BLOCK) == RASPPUCE_OK
+            && rasppuce_encrypt_packed(key, BLOCK, block, BLOCK, packed, BLOCK) == RASPPUCE_OK
+            && rasppuce_decrypt_table(key, BLOCK, table, BLOCK, again, BLOCK) == RASPPUCE_OK
+            && rasppuce_decrypt_packed(key, BLOCK, packed, BLOCK, back, BLOCK) == RASPPUCE_OK;
+    print_bytes("table", table, BLOCK);
+    print_bytes("words", packed, BLOCK);
+    say(done && memcmp(table, published, BLOCK) == 0 && memcmp(packed, published, BLOCK) == 0,
+        "By table and by words it is the published ciphertext.", "It is NOT the published one.");
+    say(memcmp(again, block, BLOCK) == 0 && memcmp(back, block, BLOCK) == 0,
+        "Decrypted, both give the block again.", "Decrypted, they DIFFER from the block.");
+}
+
 int main(void)
 {
+    show_cipher();
     uint8_t shares[RASPPUCE_SENDER_KEY_BYTES], keys[RASPPUCE_RECEIVER_KEY_BYTES] = {0};
     uint8_t sender[RASPPUCE_SENDER_BYTES] = {0}, receiver[RASPPUCE_RECEIVER_BYTES] = {0};
     ours.message = "2026-03-02 14:05:09.250 +01:00";
