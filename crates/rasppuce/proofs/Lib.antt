@@ -1,3 +1,6 @@
 pub mod Lent
 pub mod Told
-pub mod Calls
+pub mod Keying
+pub mod Opening
+pub mod Sealing
+pub mod Demand

@@ -1,11 +1,11 @@
--- Whether the work was done is told by an answer's number. Assumes nothing.
+-- An answer's number tells whether the work was done. Assumes nothing.
 use mathlib.Core.Path.{_≡_, refl}
 use mathlib.Core.Bool.{Bool, true, false}
 use mathlib.Core.List.{List, [], _∷_}
 use Prim.Native.Nat.{ℕ, zero, suc}
 use native.Mathlib.Omega.{arith}
 use lib.Dec.{T}
-use Rattle.answers.specs.Answer.{Answer, done, refused, Cause, _when_, first, numberOf, ifDone}
+use Rattle.answers.specs.Answer.{Answer, done, refused, Cause, _when_, first, numberOf}
 
 -- no cause has the number 0
 abbrev pub numbered : List Cause → Bool
@@ -13,22 +13,12 @@ numbered [] = true
 numbered ((zero when b) ∷ cs) = false
 numbered ((suc n when b) ∷ cs) = numbered cs
 
--- a refusal's number is not 0
-abbrev pub Numbered : Answer → Type 0
-Numbered (done vs) = Unit {0}
-Numbered (refused n) = n ≡ 0 → ⊥
+pub told-done : (cs : List Cause) (vs : List ℕ) → T (numbered cs) → numberOf (first cs (done vs)) ≡ 0 → first cs (done vs) ≡ done vs
+told-done [] vs h e = refl
+told-done ((zero when b) ∷ cs) vs h e = absurd h
+told-done ((suc n when true) ∷ cs) vs h e = absurd (omega arith)
+told-done ((suc n when false) ∷ cs) vs h e = told-done cs vs h e
 
-pub first-numbered : (cs : List Cause) (vs : List ℕ) → T (numbered cs) → Numbered (first cs (done vs))
-first-numbered [] vs h = tt
-first-numbered ((zero when b) ∷ cs) vs h = absurd h
-first-numbered ((suc n when true) ∷ cs) vs h = λ e. omega arith
-first-numbered ((suc n when false) ∷ cs) vs h = first-numbered cs vs h
-
-module _ {ℓ} {A : Type ℓ} where
-  pub told-done : (a : Answer) → Numbered a → numberOf a ≡ 0 → (x y : A) → x ≡ ifDone a x y
-  told-done (done vs) p e x y = refl
-  told-done (refused n) p e x y = absurd (p e)
-
-  pub told-refused : (a : Answer) → (numberOf a ≡ 0 → ⊥) → (x y : A) → y ≡ ifDone a x y
-  told-refused (done vs) h x y = absurd (h refl)
-  told-refused (refused n) h x y = refl
+pub told-refused : (a : Answer) → (numberOf a ≡ 0 → ⊥) → a ≡ refused (numberOf a)
+told-refused (done vs) h = absurd (h refl)
+told-refused (refused n) h = refl

@@ -4,7 +4,7 @@ use borrow.Author.Needs.{needs}
 use Rattle.answers.specs.Answer.{numberOf}
 use Rattle.opening.specs.Receivers.{receiverKeys, receiverOf}
 use Rattle.rasppuce.specs.Lent.{receiverSize, receiverBytes}
-use Rattle.rasppuce.proofs.Calls.{bad-link, bad-keys, is-keyed}
+use Rattle.rasppuce.proofs.Keying.{bad-link, bad-keys, is-keyed}
 use Rattle.rasppuce.proofs.receiving.rasppuce_key_receiver.Statement.{statement}
 use Rattle.rasppuce.proofs.receiving.rasppuce_key_receiver.Tie as tie
 

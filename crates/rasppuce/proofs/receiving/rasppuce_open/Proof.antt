@@ -1,7 +1,6 @@
 -- `rasppuce_open` meets its contract, by that of opening. Assumes nothing.
-use mathlib.Core.Path.{sym, _∙_}
 use borrow.Author.Needs.{needs}
-use Rattle.rasppuce.proofs.Calls.{link-size, told, opened, not-opened}
+use Rattle.rasppuce.proofs.Opening.{link-size, opened, not-opened}
 use Rattle.rasppuce.proofs.receiving.rasppuce_open.Statement.{statement}
 use Rattle.rasppuce.proofs.receiving.rasppuce_open.Tie as tie
 
@@ -11,7 +10,7 @@ store-receiver-requires c κs =
     let work = number .before .before .before in
     let link = work .before .before in
     let a = link .before .before .before .before .before .args in
-    link-size _ _ (a .link .now) (sym (told (a .link .now) _ (a .out .now) (link .load-receiver .ensures) (work .«open» .ensures) (number .open-number .ensures)) ∙ c .before .before .if1 .taken)
+    link-size (a .link .now) _ (a .out .now) (link .load-receiver .ensures) (work .«open» .ensures) (number .open-number .ensures) (c .before .before .if1 .taken)
 
 returns : tie.Need-returns
 returns c =
@@ -19,15 +18,15 @@ returns c =
     let work = number .before .before .before in
     let link = work .before .before in
     let a = link .before .before .before .before .before .args in
-    opened (a .link .now) _ (a .out .now) (link .load-receiver .ensures) (work .«open» .ensures) (number .open-number .ensures) (search needs) (c .before .before .store-receiver .ensures)
+    opened (a .link .now) _ (a .out .now) (link .load-receiver .ensures) (work .«open» .ensures) (number .open-number .ensures) (search needs)
+    (c .before .before .store-receiver .ensures)
 
 returns-2 : tie.Need-returns-2
 returns-2 c =
-    let number = c .before in
-    let work = number .before .before .before in
+    let work = c .before .before .before .before in
     let link = work .before .before in
     let a = link .before .before .before .before .before .args in
-    not-opened (a .link .now) _ (a .out .now) (link .load-receiver .ensures) (work .«open» .ensures) (number .open-number .ensures) (c .if1 .left)
+    not-opened (a .link .now) _ (a .out .now) (link .load-receiver .ensures) (work .«open» .ensures) (c .before .open-number .ensures) (c .if1 .left)
 
 pub rasppuce-open-spec : {M : Type 1} → statement M
 rasppuce-open-spec =

@@ -4,7 +4,7 @@ use borrow.Author.Needs.{needs}
 use Rattle.answers.specs.Answer.{numberOf}
 use Rattle.links.specs.Links.{senderKeys, senderOf}
 use Rattle.rasppuce.specs.Lent.{senderSize, senderBytes}
-use Rattle.rasppuce.proofs.Calls.{bad-link, bad-keys, is-keyed}
+use Rattle.rasppuce.proofs.Keying.{bad-link, bad-keys, is-keyed}
 use Rattle.rasppuce.proofs.sending.rasppuce_key_sender.Statement.{statement}
 use Rattle.rasppuce.proofs.sending.rasppuce_key_sender.Tie as tie
 

@@ -1,0 +1,50 @@
+-- What opening on a lent link returns and leaves. Assumes nothing.
+use mathlib.Core.Path.{_≡_, sym, ap, _∙_}
+use mathlib.Core.Bool.{Bool, true, false, cond}
+use mathlib.Core.List.{List, [], _∷_}
+use Prim.Native.Nat.{ℕ}
+use native.Mathlib.Omega.{arith}
+use lib.Dec.{T, eqb, eqb→eq}
+use lib.ListN.{length}
+use Rattle.answers.specs.Answer.{Answer, done, numberOf}
+use Rattle.answers.proofs.First.{if-done, if-refused}
+use Rattle.opening.specs.Receivers.{freshReceiver}
+use Rattle.opening.specs.Open.{messageSize, openCauses, openAnswer, openLink, openOutput}
+use Rattle.opening.specs.declared.Receiver.{Receiver}
+use Rattle.rasppuce.specs.Lent.{receiverSize, receiverIn, receiverBytes}
+use Rattle.rasppuce.specs.Calls.{openedLink}
+use Rattle.rasppuce.proofs.Told.{told-done, told-refused}
+
+keyed-in : (b : Bool) (x : Receiver) (r : List ℕ) (o : ℕ) → numberOf (openAnswer (cond b x freshReceiver) r o) ≡ 0 → T b
+unfolding openAnswer
+keyed-in true x r o e = tt
+keyed-in false x r o e = absurd (omega arith)
+
+-- the bytes l say the link x; on it opening handed back the answer a, the link y and the output p, and n is the answer's number
+module _ (l r o : List ℕ) {x : Receiver} (ex : x ≡ receiverIn l) {y : Receiver} {a : Answer} {p : List ℕ}
+    (e : (a ≡ openAnswer x r (length o)) × ((y ≡ openLink x r (length o)) × (p ≡ openOutput x r o))) {n : ℕ} (en : n ≡ numberOf a) where
+  abbrev answer : Answer
+  answer = openAnswer (receiverIn l) r (length o)
+
+  told : n ≡ numberOf answer
+  told = en ∙ ap numberOf (e .0 ∙ ap (λ (z : Receiver). openAnswer z r (length o)) ex)
+
+  -- the number n is returned, and the link's bytes are l′ at the end
+  abbrev Opens : List ℕ → Type 0
+  Opens l′ = (n ≡ numberOf answer) × ((l′ ≡ openedLink l r (length o)) × (p ≡ openOutput (receiverIn l) r o))
+
+  written : p ≡ openOutput (receiverIn l) r o
+  written = e .1 .1 ∙ ap (λ (z : Receiver). openOutput z r o) ex
+
+  -- a link that was opened on is keyed, and so of its size
+  pub link-size : n ≡ 0 → length l ≡ receiverSize
+  link-size z = eqb→eq (length l) receiverSize (keyed-in (eqb (length l) receiverSize) _ r (length o) (sym told ∙ z))
+
+  pub opened : n ≡ 0 → {l′ : List ℕ} → l′ ≡ receiverBytes y → Opens l′
+  unfolding openAnswer
+  opened z el =
+      let d : answer ≡ done (messageSize r ∷ []) = told-done (openCauses (receiverIn l) r (length o)) _ tt (sym told ∙ z) in
+      (told, (el ∙ ap receiverBytes (e .1 .0 ∙ ap (λ (z : Receiver). openLink z r (length o)) ex) ∙ if-done d _ l, written))
+
+  pub not-opened : (n ≡ 0 → ⊥) → Opens l
+  not-opened z = (told, (if-refused (told-refused answer (λ d. z (told ∙ d))) (receiverBytes (openLink (receiverIn l) r (length o))) l, written))
