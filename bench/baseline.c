@@ -1,208 +1,359 @@
 /*
- * BAKSHEESH on packed words in plain C: the same algorithm as the proved packed engine.
- *
- * A block is four 32-bit words: bit i of word j holds bit j of cell i.
+ * The calls of rasppuce.h in plain C: blocks, plain sealing, opening, shared sealing.
  */
 #include "baseline.h"
+#include "packed.h"
+#include "rasppuce.h"
 
-enum { ROUNDS = 35, BLOCK = 16, NOT_A_BLOCK = 5 };
+#include <string.h>
 
-/* The six constant bits of each round, each at its cell's place; no two of them are in one cell. */
-static const uint32_t CONSTANTS[ROUNDS] = {
-    0x00000008, 0x04000004, 0x00010000, 0x00000104, 0x04000010, 0x0001000c, 0x04000100,
-    0x04010014, 0x00010108, 0x00000114, 0x04000018, 0x0401000c, 0x04010100, 0x04010114,
-    0x04010118, 0x0001011c, 0x00000118, 0x0000001c, 0x04000008, 0x04010004, 0x00010100,
-    0x04000114, 0x04010018, 0x0401010c, 0x00010110, 0x0400011c, 0x00010018, 0x0400010c,
-    0x00010010, 0x0000010c, 0x00000010, 0x0000000c, 0x04000000, 0x00010004, 0x00000100,
+enum {
+    BLOCK = 16,
+    HEAD = 8,        /* link number and sequence number, in front of a record's ciphertext */
+    LINK_NUMBER = 1, /* places in a link */
+    LINK_LAST = 5,
+    LINK_KEYS = 9
 };
 
-typedef struct {
-    uint32_t w[4];
-} packed;
+/* ---- numbers and blocks as bytes */
 
-static inline uint32_t rotate_left(uint32_t x, int n)
+static uint32_t number_at(const uint8_t *bytes)
 {
-    return x << n | x >> (32 - n);
+    return (uint32_t)bytes[0] << 24 | (uint32_t)bytes[1] << 16 | (uint32_t)bytes[2] << 8 | (uint32_t)bytes[3];
 }
 
-static inline uint32_t rotate_right(uint32_t x, int n)
+static void put_number(uint8_t *bytes, uint32_t x)
 {
-    return x >> n | x << (32 - n);
+    bytes[0] = (uint8_t)(x >> 24);
+    bytes[1] = (uint8_t)(x >> 16);
+    bytes[2] = (uint8_t)(x >> 8);
+    bytes[3] = (uint8_t)x;
 }
 
-/* Bits of the mask and those n places above them change places. */
-static inline uint32_t swapmove(uint32_t x, uint32_t mask, int n)
+static packed counter_block(uint32_t number, uint32_t sequence, uint32_t i)
 {
-    uint32_t t = ((x >> n) ^ x) & mask;
-    return x ^ t ^ (t << n);
+    uint8_t block[BLOCK] = {0};
+    put_number(block, number);
+    put_number(block + 8, sequence);
+    put_number(block + 12, i);
+    return pack(block);
 }
 
-/* ---- between bytes and packed words */
-
-/* Four bytes as a word, the lowest first, with the bits of each byte made ready for transpose. */
-static inline uint32_t gather(uint8_t a, uint8_t b, uint8_t c, uint8_t d)
+/* How many blocks hold `length` bytes. */
+static size_t block_count(size_t length)
 {
-    uint32_t x = (uint32_t)a | (uint32_t)b << 8 | (uint32_t)c << 16 | (uint32_t)d << 24;
-    return swapmove(x, 0x0a0a0a0a, 3);
+    return (length + BLOCK - 1) / BLOCK;
 }
 
-/* The number of a word, and two bits of a bit's place in it, change places; done twice it does nothing. */
-static inline packed transpose(packed s)
+/* How many bytes of a text of `length` stand in block j. */
+static size_t block_width(size_t length, size_t j)
 {
-    uint32_t t = ((s.w[0] >> 4) ^ s.w[2]) & 0x0f0f0f0f;
-    uint32_t u = ((s.w[1] >> 4) ^ s.w[3]) & 0x0f0f0f0f;
-    uint32_t a = s.w[0] ^ t << 4;
-    uint32_t b = s.w[1] ^ u << 4;
-    uint32_t c = s.w[2] ^ t;
-    uint32_t d = s.w[3] ^ u;
-    uint32_t v = ((a >> 2) ^ b) & 0x33333333;
-    uint32_t x = ((c >> 2) ^ d) & 0x33333333;
-    return (packed){{a ^ v << 2, b ^ v, c ^ x << 2, d ^ x}};
+    size_t rest = length - BLOCK * j;
+    return rest < BLOCK ? rest : BLOCK;
 }
 
-static inline packed pack(const uint8_t *b)
+/* The `width` bytes of a block, with CMAC's padding where there are fewer than 16. */
+static packed padded(const uint8_t *bytes, size_t width)
 {
-    packed s = transpose((packed){{
-        gather(b[15], b[11], b[7], b[3]),
-        gather(b[14], b[10], b[6], b[2]),
-        gather(b[13], b[9], b[5], b[1]),
-        gather(b[12], b[8], b[4], b[0]),
-    }});
-    return (packed){{s.w[0], s.w[2], s.w[1], s.w[3]}};
+    if (width == BLOCK)
+        return pack(bytes);
+    uint8_t block[BLOCK] = {0};
+    for (size_t i = 0; i < width; i++)
+        block[i] = bytes[i];
+    block[width] = 0x80;
+    return pack(block);
 }
 
-static inline void unpack(packed s, uint8_t *b)
+/* Writes `width` bytes of a text, XORed with a block of key stream. */
+static void put_xor(uint8_t *out, const uint8_t *text, size_t width, packed stream)
 {
-    packed t = transpose((packed){{s.w[0], s.w[2], s.w[1], s.w[3]}});
-    for (int j = 0; j < 4; j++) {
-        uint32_t x = swapmove(t.w[j], 0x0a0a0a0a, 3);
-        for (int i = 0; i < 4; i++)
-            b[15 - (4 * i + j)] = (uint8_t)(x >> (8 * i));
-    }
+    uint8_t key[BLOCK];
+    unpack(stream, key);
+    for (size_t i = 0; i < width; i++)
+        out[i] = text[i] ^ key[i];
 }
 
-/* ---- the steps of a round */
-
-static inline packed add(packed s, packed t)
+/* CMAC's doubling: shifted left by one bit, and 0x87 added where the highest bit was set. */
+static packed doubled(packed s)
 {
-    return (packed){{s.w[0] ^ t.w[0], s.w[1] ^ t.w[1], s.w[2] ^ t.w[2], s.w[3] ^ t.w[3]}};
+    uint8_t b[BLOCK], r[BLOCK];
+    unpack(s, b);
+    for (int i = 0; i < 15; i++)
+        r[i] = (uint8_t)(b[i] << 1 | b[i + 1] >> 7);
+    r[15] = (uint8_t)(b[15] << 1);
+    if (b[0] >= 0x80)
+        r[15] ^= 0x87;
+    return pack(r);
 }
 
-static inline packed add_constant(packed s, int round)
-{
-    uint32_t c = CONSTANTS[round];
-    return (packed){{s.w[0] ^ (c & 0x4), s.w[1] ^ (c & 0x8), s.w[2] ^ (c & 0x04000000), s.w[3] ^ (c & 0x00010110)}};
-}
-
-static inline packed sub_cells(packed s)
-{
-    uint32_t a = s.w[0], b = s.w[1], c = s.w[2], d = s.w[3];
-    uint32_t u = b & c;
-    uint32_t v = (a & c) ^ u ^ b;
-    uint32_t w = ~(a ^ u ^ d);
-    return (packed){{w ^ v, w, v ^ d, (a & (b ^ c)) ^ c ^ d}};
-}
-
-static inline packed inverse_sub_cells(packed s)
-{
-    uint32_t a = s.w[0], b = s.w[1], c = s.w[2], d = s.w[3];
-    return (packed){{
-        ~(((a ^ d) & (b ^ c)) ^ c ^ d),
-        (a & c) ^ (d & (a ^ c)) ^ a ^ b ^ d,
-        (a & (b ^ c)) ^ a ^ (b & c) ^ c ^ d,
-        a ^ b ^ c,
-    }};
-}
-
-/* Bit 4a + b goes to bit a of byte 3 - b. */
-static inline uint32_t perm_word(uint32_t x)
-{
-    x = swapmove(x, 0x0a0a0a0a, 3);
-    x = swapmove(x, 0x00cc00cc, 6);
-    x = swapmove(x, 0x0000f0f0, 12);
-    return swapmove(x, 0x000000ff, 24);
-}
-
-static inline uint32_t inverse_perm_word(uint32_t x)
-{
-    x = swapmove(x, 0x000000ff, 24);
-    x = swapmove(x, 0x0000f0f0, 12);
-    x = swapmove(x, 0x00cc00cc, 6);
-    return swapmove(x, 0x0a0a0a0a, 3);
-}
-
-static inline packed perm_bits(packed s)
-{
-    return (packed){{
-        rotate_left(perm_word(s.w[0]), 8),
-        rotate_left(perm_word(s.w[1]), 16),
-        rotate_left(perm_word(s.w[2]), 24),
-        perm_word(s.w[3]),
-    }};
-}
-
-static inline packed inverse_perm_bits(packed s)
-{
-    return (packed){{
-        inverse_perm_word(rotate_right(s.w[0], 8)),
-        inverse_perm_word(rotate_right(s.w[1], 16)),
-        inverse_perm_word(rotate_right(s.w[2], 24)),
-        inverse_perm_word(s.w[3]),
-    }};
-}
-
-/* The key, rotated right by one. */
-static inline packed rotate_key(packed k)
-{
-    return (packed){{k.w[1], k.w[2], k.w[3], rotate_right(k.w[0], 1)}};
-}
-
-/* The key, rotated left by one. */
-static inline packed rotate_key_back(packed k)
-{
-    return (packed){{rotate_left(k.w[3], 1), k.w[0], k.w[1], k.w[2]}};
-}
-
-/* The key, rotated right by all 35 rounds at once. */
-static inline packed rotate_key_by_all(packed k)
-{
-    return (packed){{
-        rotate_right(k.w[3], 8),
-        rotate_right(k.w[0], 9),
-        rotate_right(k.w[1], 9),
-        rotate_right(k.w[2], 9),
-    }};
-}
-
-/* ---- the calls */
+/* ---- block calls */
 
 uint32_t baseline_encrypt_packed(const uint8_t *key, size_t key_len, const uint8_t *input, size_t input_len,
                                  uint8_t *output, size_t output_len)
 {
     if (key_len != BLOCK || input_len != BLOCK || output_len != BLOCK)
-        return NOT_A_BLOCK;
-    packed k = pack(key);
-    packed s = add(pack(input), k);
-    for (int round = 0; round < ROUNDS; round++) {
-        k = rotate_key(k);
-        s = add(add_constant(perm_bits(sub_cells(s)), round), k);
-    }
-    unpack(s, output);
-    return 0;
+        return RASPPUCE_BLOCK;
+    unpack(encrypt_words(pack(key), pack(input)), output);
+    return RASPPUCE_OK;
 }
 
 uint32_t baseline_decrypt_packed(const uint8_t *key, size_t key_len, const uint8_t *input, size_t input_len,
                                  uint8_t *output, size_t output_len)
 {
     if (key_len != BLOCK || input_len != BLOCK || output_len != BLOCK)
-        return NOT_A_BLOCK;
-    packed first = pack(key);
-    packed k = rotate_key_by_all(first);
-    packed s = pack(input);
-    for (int round = ROUNDS - 1; round >= 0; round--) {
-        s = inverse_sub_cells(inverse_perm_bits(add_constant(add(s, k), round)));
-        k = rotate_key_back(k);
+        return RASPPUCE_BLOCK;
+    unpack(decrypt_words(pack(key), pack(input)), output);
+    return RASPPUCE_OK;
+}
+
+/* ---- plain sealing and opening */
+
+/* CTR: the ciphertext of a message, or the message of a ciphertext. */
+static void crypt(const uint8_t *ke, uint32_t number, uint32_t sequence, const uint8_t *text, size_t length,
+                  uint8_t *out)
+{
+    packed key = pack(ke);
+    for (size_t j = 0; j < block_count(length); j++) {
+        packed stream = encrypt_words(key, counter_block(number, sequence, (uint32_t)j));
+        put_xor(out + BLOCK * j, text + BLOCK * j, block_width(length, j), stream);
     }
-    unpack(add(s, first), output);
-    return 0;
+}
+
+/* The subkey that CMAC adds to the last block: doubled twice where that block is padded. */
+static packed last_subkey(packed key, size_t length)
+{
+    packed first = doubled(encrypt_words(key, (packed){{0, 0, 0, 0}}));
+    return length % BLOCK == 0 ? first : doubled(first);
+}
+
+/* CMAC of counter block 0 followed by a ciphertext. */
+static void put_tag(const uint8_t *km, uint32_t number, uint32_t sequence, const uint8_t *text, size_t length,
+                    uint8_t *tag)
+{
+    packed key = pack(km);
+    packed block = counter_block(number, sequence, 0);
+    packed chain = {{0, 0, 0, 0}};
+    for (size_t j = 0; j < block_count(length); j++) {
+        chain = encrypt_words(key, add(chain, block));
+        block = padded(text + BLOCK * j, block_width(length, j));
+    }
+    block = add(block, last_subkey(key, length));
+    unpack(encrypt_words(key, add(chain, block)), tag);
+}
+
+uint32_t baseline_seal_plain(const uint8_t *keys, size_t keys_len, uint32_t number, uint32_t sequence,
+                             const uint8_t *message, size_t message_len, uint8_t *record, size_t record_len)
+{
+    if (keys_len != RASPPUCE_RECEIVER_KEY_BYTES)
+        return RASPPUCE_KEYS;
+    if (sequence == 0)
+        return RASPPUCE_SEQUENCE;
+    if (message_len > RASPPUCE_MESSAGE_MOST)
+        return RASPPUCE_MESSAGE;
+    if (record_len < message_len + RASPPUCE_RECORD_ADDS)
+        return RASPPUCE_OUTPUT;
+    uint8_t *text = record + HEAD;
+    put_number(record, number);
+    put_number(record + 4, sequence);
+    crypt(keys, number, sequence, message, message_len, text);
+    put_tag(keys + BLOCK, number, sequence, text, message_len, text + message_len);
+    return RASPPUCE_OK;
+}
+
+/* All bytes are looked at. */
+static int same_block(const uint8_t *a, const uint8_t *b)
+{
+    uint8_t differences = 0;
+    for (int i = 0; i < BLOCK; i++)
+        differences |= a[i] ^ b[i];
+    return differences == 0;
+}
+
+uint32_t baseline_open(uint8_t *link, size_t link_len, const uint8_t *record, size_t record_len,
+                       uint8_t *message, size_t message_len)
+{
+    if (link_len != RASPPUCE_RECEIVER_BYTES || link[0] != 1)
+        return RASPPUCE_NOT_KEYED;
+    if (record_len < RASPPUCE_RECORD_ADDS || record_len > RASPPUCE_RECORD_MOST)
+        return RASPPUCE_RECORD;
+    uint32_t number = number_at(record);
+    if (number != number_at(link + LINK_NUMBER))
+        return RASPPUCE_OTHER_LINK;
+    size_t length = record_len - RASPPUCE_RECORD_ADDS;
+    if (message_len < length)
+        return RASPPUCE_OUTPUT;
+    uint32_t sequence = number_at(record + 4);
+    if (sequence <= number_at(link + LINK_LAST))
+        return RASPPUCE_OLD_NUMBER;
+    const uint8_t *ke = link + LINK_KEYS, *text = record + HEAD;
+    uint8_t tag[BLOCK];
+    put_tag(ke + BLOCK, number, sequence, text, length, tag);
+    if (!same_block(tag, text + length))
+        return RASPPUCE_TAG;
+    crypt(ke, number, sequence, text, length, message);
+    put_number(link + LINK_LAST, sequence);
+    return RASPPUCE_OK;
+}
+
+/* ---- shared steps */
+
+/* Three shares of a block. */
+typedef struct {
+    packed a, b, c;
+} triple;
+
+static const triple no_shares;
+
+static inline triple only(packed block)
+{
+    triple t = no_shares;
+    t.a = block;
+    return t;
+}
+
+static inline triple add_shares(triple s, triple t)
+{
+    return (triple){add(s.a, t.a), add(s.b, t.b), add(s.c, t.c)};
+}
+
+static inline packed joined(triple s)
+{
+    return add(s.a, add(s.b, s.c));
+}
+
+static triple pack_shares(const uint8_t *bytes)
+{
+    return (triple){pack(bytes), pack(bytes + BLOCK), pack(bytes + 2 * BLOCK)};
+}
+
+static triple doubled_shares(triple s)
+{
+    return (triple){doubled(s.a), doubled(s.b), doubled(s.c)};
+}
+
+/* The next 32 bytes of tape as masks u, v and u XOR v, one into each share. */
+static inline triple mask(triple s, const uint8_t *tape)
+{
+    packed u = pack(tape), v = pack(tape + BLOCK);
+    return (triple){add(s.a, u), add(s.b, v), add(s.c, add(u, v))};
+}
+
+/* The S-box's output share from the next share a and the one after it, b; `one` is its constant. */
+static inline packed sbox_share(uint32_t one, packed a, packed b)
+{
+    uint32_t a0 = a.w[0], a1 = a.w[1], a2 = a.w[2], a3 = a.w[3];
+    uint32_t b0 = b.w[0], b1 = b.w[1], b2 = b.w[2];
+    uint32_t p01 = (a0 & a1) ^ (a0 & b1) ^ (b0 & a1);
+    uint32_t p02 = (a0 & a2) ^ (a0 & b2) ^ (b0 & a2);
+    uint32_t p12 = (a1 & a2) ^ (a1 & b2) ^ (b1 & a2);
+    return (packed){{
+        p02 ^ a0 ^ a1 ^ a3 ^ one,
+        a0 ^ p12 ^ a3 ^ one,
+        p02 ^ p12 ^ a1 ^ a3,
+        p01 ^ p02 ^ a2 ^ a3,
+    }};
+}
+
+/* A call: 35 rounds, each with masks of its own from the tape. */
+static triple call(triple key, triple input, const uint8_t *tape)
+{
+    triple k = key, s = add_shares(input, key);
+    for (int round = 0; round < ROUNDS; round++) {
+        s = mask(s, tape + 2 * BLOCK * round);
+        k = (triple){rotate_key(k.a), rotate_key(k.b), rotate_key(k.c)};
+        s = (triple){
+            add(add_constant(perm_bits(sbox_share(0xffffffff, s.b, s.c)), round), k.a),
+            add(perm_bits(sbox_share(0, s.c, s.a)), k.b),
+            add(perm_bits(sbox_share(0, s.a, s.b)), k.c),
+        };
+    }
+    return s;
+}
+
+/* ---- shared sealing */
+
+enum { CALL_TAPE = 2 * BLOCK * ROUNDS, MOST_BLOCKS = RASPPUCE_MESSAGE_MOST / BLOCK };
+
+static inline packed only_bits(packed s, packed bits)
+{
+    return (packed){{s.w[0] & bits.w[0], s.w[1] & bits.w[1], s.w[2] & bits.w[2], s.w[3] & bits.w[3]}};
+}
+
+/* Call output shares, cut to their first `width` bytes. */
+static triple cut(triple s, size_t width)
+{
+    if (width == BLOCK)
+        return s;
+    uint8_t ones[BLOCK] = {0};
+    memset(ones, 0xff, width);
+    packed bits = pack(ones);
+    return (triple){only_bits(s.a, bits), only_bits(s.b, bits), only_bits(s.c, bits)};
+}
+
+/* A block of ciphertext in shares: its call's output shares, with the message block in share 0. */
+static triple text_shares(triple stream, const uint8_t *text, size_t width)
+{
+    triple s = cut(stream, width);
+    s.a = add(s.a, padded(text, width));
+    return s;
+}
+
+uint32_t baseline_seal(uint8_t *link, size_t link_len, const uint8_t *message, size_t message_len,
+                       const uint8_t *tape, size_t tape_len, uint8_t *record, size_t record_len,
+                       uint8_t *shares, size_t shares_len)
+{
+    if (link_len != RASPPUCE_SENDER_BYTES || link[0] != 1)
+        return RASPPUCE_NOT_KEYED;
+    if (number_at(link + LINK_LAST) == UINT32_MAX)
+        return RASPPUCE_NUMBERS_USED;
+    if (message_len > RASPPUCE_MESSAGE_MOST)
+        return RASPPUCE_MESSAGE;
+    if (tape_len < RASPPUCE_TAPE_BYTES(message_len))
+        return RASPPUCE_TAPE;
+    if (record_len < message_len + RASPPUCE_RECORD_ADDS || shares_len < RASPPUCE_SHARES_BYTES)
+        return RASPPUCE_OUTPUT;
+
+    uint32_t number = number_at(link + LINK_NUMBER);
+    uint32_t sequence = number_at(link + LINK_LAST) + 1;
+    size_t count = block_count(message_len);
+    uint8_t *text = record + HEAD;
+    const uint8_t *at = tape;
+
+    triple ke = mask(pack_shares(link + LINK_KEYS), at);
+    at += 2 * BLOCK;
+    triple km = mask(pack_shares(link + LINK_KEYS + 3 * BLOCK), at);
+    at += 2 * BLOCK;
+
+    /* CTR: calls 1 to n. */
+    triple streams[MOST_BLOCKS];
+    for (size_t j = 0; j < count; j++, at += CALL_TAPE) {
+        streams[j] = call(ke, only(counter_block(number, sequence, (uint32_t)j)), at);
+        put_xor(text + BLOCK * j, message + BLOCK * j, block_width(message_len, j), joined(streams[j]));
+    }
+
+    /* CMAC's subkey: call n + 1. */
+    triple subkey = doubled_shares(call(km, no_shares, at));
+    at += CALL_TAPE;
+    if (message_len % BLOCK != 0)
+        subkey = doubled_shares(subkey);
+
+    /* CMAC's chain: calls n + 2 to 2n + 2. */
+    triple block = only(counter_block(number, sequence, 0));
+    triple chain = no_shares;
+    for (size_t j = 0; j < count; j++, at += CALL_TAPE) {
+        chain = call(km, add_shares(chain, block), at);
+        block = text_shares(streams[j], message + BLOCK * j, block_width(message_len, j));
+    }
+    triple tag = call(km, add_shares(chain, add_shares(subkey, block)), at);
+    at += CALL_TAPE;
+
+    put_number(record, number);
+    put_number(record + 4, sequence);
+    unpack(joined(tag), text + message_len);
+    unpack(tag.a, shares);
+    unpack(tag.b, shares + BLOCK);
+    unpack(tag.c, shares + 2 * BLOCK);
+    put_number(shares + 3 * BLOCK, (uint32_t)(at - tape));
+    put_number(link + LINK_LAST, sequence);
+    return RASPPUCE_OK;
 }

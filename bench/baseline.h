@@ -1,4 +1,7 @@
-/* The same calls in plain C, to measure the proved ones against. */
+/*
+ * The same calls in plain C, to measure the proved ones against: each does what the call of that name
+ * in rasppuce.h does, by the same steps, and gives the same answers.
+ */
 #ifndef BASELINE_H
 #define BASELINE_H
 
@@ -9,5 +12,13 @@ uint32_t baseline_encrypt_packed(const uint8_t *key, size_t key_len, const uint8
                                  uint8_t *output, size_t output_len);
 uint32_t baseline_decrypt_packed(const uint8_t *key, size_t key_len, const uint8_t *input, size_t input_len,
                                  uint8_t *output, size_t output_len);
+
+uint32_t baseline_seal_plain(const uint8_t *keys, size_t keys_len, uint32_t number, uint32_t sequence,
+                             const uint8_t *message, size_t message_len, uint8_t *record, size_t record_len);
+uint32_t baseline_open(uint8_t *link, size_t link_len, const uint8_t *record, size_t record_len,
+                       uint8_t *message, size_t message_len);
+uint32_t baseline_seal(uint8_t *link, size_t link_len, const uint8_t *message, size_t message_len,
+                       const uint8_t *tape, size_t tape_len, uint8_t *record, size_t record_len,
+                       uint8_t *shares, size_t shares_len);
 
 #endif

@@ -1,86 +1,30 @@
 /*
- * Times the calls of librasppuce.a against the same algorithm in C (baseline.c), in one process.
+ * Times the calls of librasppuce.a against the same steps in C (baseline.c), in one process.
  *
- * First both have to agree on random blocks. Then each row runs the proved call and the C call
- * in turn, in many short repetitions; the best of each counts. Every output is the next input, so
- * no call can be left out or overlap the next. A row over its budget makes the exit status 1.
+ * First both have to agree on random inputs (agree.c). Then the proved call and the C call of each row
+ * run in turn, in many short runs; the best of each counts. What a call gives goes into the next: a
+ * block call's output is the next input, and a sealing's tag gives a byte of the next sequence number
+ * or tape. Opening takes the same record again, on the link as it was.
+ *
+ * A ratio over its budget is said in words below the tables. The exit status is 1 only where the
+ * archive and C disagree, so that the whole table is printed whatever the machine is doing besides.
  *
  * A further row is a line in `rows`. A call of another shape also needs one `measure` function.
  */
 #define _POSIX_C_SOURCE 200809L
 #include "baseline.h"
+#include "bench.h"
+#include "rasppuce.h"
 
 #include <stdio.h>
+#include <stdlib.h>
 #include <string.h>
 #include <time.h>
 
-typedef uint32_t block_call(const uint8_t *key, size_t key_len, const uint8_t *input, size_t input_len,
-                            uint8_t *output, size_t output_len);
-
-block_call rasppuce_encrypt_table, rasppuce_decrypt_table;
-block_call rasppuce_encrypt_packed, rasppuce_decrypt_packed;
-
 enum {
-    AGREEMENTS = 100000, /* random blocks on which both have to agree */
-    REPETITIONS = 600,   /* short runs of each call, of which the best counts */
-    RUN_NS = 300000      /* about how long one of them takes */
+    REPETITIONS = 600, /* short runs of each call, of which the best counts */
+    RUN_NS = 300000    /* about how long one of them takes */
 };
-
-/* ---- random bytes (splitmix64) */
-
-static uint64_t random_state = 0x0123456789abcdef;
-
-static uint64_t random_number(void)
-{
-    uint64_t z = random_state += 0x9e3779b97f4a7c15;
-    z = (z ^ (z >> 30)) * 0xbf58476d1ce4e5b9;
-    z = (z ^ (z >> 27)) * 0x94d049bb133111eb;
-    return z ^ (z >> 31);
-}
-
-static void random_bytes(uint8_t *bytes, size_t length)
-{
-    for (size_t i = 0; i < length; i++)
-        bytes[i] = (uint8_t)(random_number() >> 56);
-}
-
-/* ---- both give the same bytes */
-
-static int agrees(const char *name, block_call *proved, block_call *baseline)
-{
-    for (int i = 0; i < AGREEMENTS; i++) {
-        uint8_t key[16], input[16], a[16] = {0}, b[16] = {1};
-        random_bytes(key, 16);
-        random_bytes(input, 16);
-        uint32_t x = proved(key, 16, input, 16, a, 16);
-        uint32_t y = baseline(key, 16, input, 16, b, 16);
-        if (x != 0 || y != 0 || memcmp(a, b, 16) != 0) {
-            printf("%s: the archive and C differ on random block %d\n", name, i);
-            return 0;
-        }
-    }
-    return 1;
-}
-
-static int all_agree(void)
-{
-    /* Encrypting and decrypting with C alone gives the block back, so the two directions of C fit. */
-    uint8_t key[16], block[16], there[16], back[16];
-    random_bytes(key, 16);
-    random_bytes(block, 16);
-    baseline_encrypt_packed(key, 16, block, 16, there, 16);
-    baseline_decrypt_packed(key, 16, there, 16, back, 16);
-    if (memcmp(block, back, 16) != 0) {
-        printf("C does not decrypt what it encrypts\n");
-        return 0;
-    }
-    return agrees("encrypt packed", rasppuce_encrypt_packed, baseline_encrypt_packed)
-        && agrees("decrypt packed", rasppuce_decrypt_packed, baseline_decrypt_packed)
-        && agrees("encrypt table", rasppuce_encrypt_table, baseline_encrypt_packed)
-        && agrees("decrypt table", rasppuce_decrypt_table, baseline_decrypt_packed);
-}
-
-/* ---- time */
 
 static double now_ns(void)
 {
@@ -89,6 +33,8 @@ static double now_ns(void)
     return (double)t.tv_sec * 1e9 + (double)t.tv_nsec;
 }
 
+/* ---- one run of each kind of call */
+
 /* Any call; a measure function knows its true type. */
 typedef void any_call(void);
 #define ANY(call) ((any_call *)(call))
@@ -96,18 +42,34 @@ typedef void any_call(void);
 /* Nanoseconds of one call, from a run of `count` of them on `size` bytes each. */
 typedef double measure(any_call *call, size_t size, int count);
 
+enum { NUMBER = 7 }; /* the link number of every timed record */
+
 /* What the calls gave, so that no result goes unused. */
 static volatile uint8_t sink;
+
+/* Fixed bytes, of no pattern that matters. */
+static void fill(uint8_t *bytes, size_t length)
+{
+    for (size_t i = 0; i < length; i++)
+        bytes[i] = (uint8_t)(i * 167 + i / 256 + 13);
+}
+
+/* Every timed call has to be accepted: a refusal costs next to nothing, and no figure would be right. */
+static void accepted(uint32_t answers)
+{
+    if (answers == RASPPUCE_OK)
+        return;
+    printf("a timed call was refused\n");
+    exit(2);
+}
 
 /* Block calls: each output is the next input. `size` is 16. */
 static double block_ns(any_call *call, size_t size, int count)
 {
     block_call *block = (block_call *)call;
     uint8_t key[16], a[16], b[16];
-    for (int i = 0; i < 16; i++) {
-        key[i] = (uint8_t)(17 * i);
-        a[i] = (uint8_t)i;
-    }
+    fill(key, 16);
+    fill(a, 16);
     uint32_t answers = 0;
     double start = now_ns();
     for (int i = 0; i < count; i += 2) {
@@ -115,13 +77,80 @@ static double block_ns(any_call *call, size_t size, int count)
         answers |= block(key, size, b, size, a, size);
     }
     double end = now_ns();
-    if (answers != 0)
-        printf("a timed call was refused\n");
+    accepted(answers);
     sink = a[0];
     return (end - start) / count;
 }
 
-/* ---- the table */
+/* Plain sealing: a byte of each tag gives the next sequence number. */
+static double seal_plain_ns(any_call *call, size_t size, int count)
+{
+    seal_plain_call *seal = (seal_plain_call *)call;
+    uint8_t keys[RASPPUCE_RECEIVER_KEY_BYTES], message[RASPPUCE_MESSAGE_MOST], record[RASPPUCE_RECORD_MOST];
+    size_t record_len = size + RASPPUCE_RECORD_ADDS;
+    fill(keys, sizeof keys);
+    fill(message, sizeof message);
+    uint32_t answers = 0, sequence = 1;
+    double start = now_ns();
+    for (int i = 0; i < count; i++) {
+        answers |= seal(keys, sizeof keys, NUMBER, sequence, message, size, record, record_len);
+        sequence = 1 + (uint32_t)record[record_len - 1];
+    }
+    double end = now_ns();
+    accepted(answers);
+    sink = record[record_len - 1];
+    return (end - start) / count;
+}
+
+/* Opening: the link's 41 bytes are put back before each call, so that the same record is new again. */
+static double open_ns(any_call *call, size_t size, int count)
+{
+    open_call *open = (open_call *)call;
+    uint8_t keys[RASPPUCE_RECEIVER_KEY_BYTES], message[RASPPUCE_MESSAGE_MOST], record[RASPPUCE_RECORD_MOST];
+    uint8_t keyed[RASPPUCE_RECEIVER_BYTES], link[RASPPUCE_RECEIVER_BYTES];
+    size_t record_len = size + RASPPUCE_RECORD_ADDS;
+    fill(keys, sizeof keys);
+    fill(message, sizeof message);
+    accepted(rasppuce_key_receiver(keyed, sizeof keyed, NUMBER, keys, sizeof keys));
+    accepted(rasppuce_seal_plain(keys, sizeof keys, NUMBER, 1, message, size, record, record_len));
+    uint32_t answers = 0;
+    double start = now_ns();
+    for (int i = 0; i < count; i++) {
+        memcpy(link, keyed, sizeof link);
+        answers |= open(link, sizeof link, record, record_len, message, size);
+    }
+    double end = now_ns();
+    accepted(answers);
+    sink = link[8];
+    return (end - start) / count;
+}
+
+/* Shared sealing: a byte of each tag goes into the next tape. */
+static double seal_ns(any_call *call, size_t size, int count)
+{
+    seal_call *seal = (seal_call *)call;
+    static uint8_t tape[RASPPUCE_TAPE_MOST];
+    uint8_t keys[RASPPUCE_SENDER_KEY_BYTES], message[RASPPUCE_MESSAGE_MOST], record[RASPPUCE_RECORD_MOST];
+    uint8_t link[RASPPUCE_SENDER_BYTES], shares[RASPPUCE_SHARES_BYTES];
+    size_t record_len = size + RASPPUCE_RECORD_ADDS;
+    fill(keys, sizeof keys);
+    fill(message, sizeof message);
+    fill(tape, sizeof tape);
+    accepted(rasppuce_key_sender(link, sizeof link, NUMBER, keys, sizeof keys));
+    uint32_t answers = 0;
+    double start = now_ns();
+    for (int i = 0; i < count; i++) {
+        answers |= seal(link, sizeof link, message, size, tape, RASPPUCE_TAPE_BYTES(size), record, record_len,
+                        shares, sizeof shares);
+        tape[0] = record[record_len - 1];
+    }
+    double end = now_ns();
+    accepted(answers);
+    sink = shares[0];
+    return (end - start) / count;
+}
+
+/* ---- the rows */
 
 typedef struct {
     const char *name;
@@ -129,65 +158,149 @@ typedef struct {
     any_call *proved;
     any_call *baseline;
     size_t size;
-    double budget; /* the ratio allowed; 0 for none */
+    double budget;          /* the ratio allowed; 0 for none */
+    double ns, baseline_ns; /* the best run of each */
 } row;
 
-static const row rows[] = {
-    {"encrypt packed", block_ns, ANY(rasppuce_encrypt_packed), ANY(baseline_encrypt_packed), 16, 1.10},
-    {"decrypt packed", block_ns, ANY(rasppuce_decrypt_packed), ANY(baseline_decrypt_packed), 16, 1.25},
-    {"encrypt table (C: packed)", block_ns, ANY(rasppuce_encrypt_table), ANY(baseline_encrypt_packed), 16, 0},
-    {"decrypt table (C: packed)", block_ns, ANY(rasppuce_decrypt_table), ANY(baseline_decrypt_packed), 16, 0},
+#define BLOCK_ROW(name, proved, baseline, budget) \
+    {name, block_ns, ANY(proved), ANY(baseline), 16, budget, 0, 0}
+#define PLAIN_ROW(name, size, budget) \
+    {name, seal_plain_ns, ANY(rasppuce_seal_plain), ANY(baseline_seal_plain), size, budget, 0, 0}
+#define OPEN_ROW(name, size, budget) \
+    {name, open_ns, ANY(rasppuce_open), ANY(baseline_open), size, budget, 0, 0}
+#define SHARED_ROW(name, size, budget) \
+    {name, seal_ns, ANY(rasppuce_seal), ANY(baseline_seal), size, budget, 0, 0}
+
+static row rows[] = {
+    BLOCK_ROW("encrypt packed", rasppuce_encrypt_packed, baseline_encrypt_packed, 1.10),
+    BLOCK_ROW("decrypt packed", rasppuce_decrypt_packed, baseline_decrypt_packed, 1.25),
+    BLOCK_ROW("encrypt table (C: packed)", rasppuce_encrypt_table, baseline_encrypt_packed, 0),
+    BLOCK_ROW("decrypt table (C: packed)", rasppuce_decrypt_table, baseline_decrypt_packed, 0),
+    PLAIN_ROW("plain seal of 16 bytes", 16, 0),
+    PLAIN_ROW("plain seal of 256 bytes", 256, 1.15),
+    OPEN_ROW("open 16 bytes", 16, 0),
+    OPEN_ROW("open 256 bytes", 256, 1.15),
+    SHARED_ROW("shared seal of 16 bytes", 16, 0),
+    SHARED_ROW("shared seal of 256 bytes", 256, 1.25),
 };
 
-enum { ROWS = sizeof rows / sizeof rows[0] };
+/* The second table: what the proved calls cost by the length of the message. */
 
-static void keep_least(double *least, double value)
+enum { LENGTHS = 4 };
+
+static const size_t lengths[LENGTHS] = {0, 16, 64, 256};
+
+typedef struct {
+    const char *name;
+    measure *measure;
+    any_call *proved;
+    double ns[LENGTHS]; /* the best run of each */
+} curve;
+
+static curve curves[] = {
+    {"plain seal", seal_plain_ns, ANY(rasppuce_seal_plain), {0}},
+    {"open", open_ns, ANY(rasppuce_open), {0}},
+    {"shared seal", seal_ns, ANY(rasppuce_seal), {0}},
+};
+
+enum { ROWS = sizeof rows / sizeof rows[0], CURVES = sizeof curves / sizeof curves[0] };
+
+/* ---- the best of many runs */
+
+/* Runs a call for about RUN_NS, an even number of times; `least`, the best run before it, is 0 for none. */
+static void run(measure *timed, any_call *call, size_t size, double *least)
 {
-    if (value < *least)
-        *least = value;
+    double expected = *least > 0 ? *least : timed(call, size, 2);
+    int count = (int)(RUN_NS / expected) & ~1;
+    double ns = timed(call, size, count < 2 ? 2 : count);
+    if (*least == 0 || ns < *least)
+        *least = ns;
 }
 
-/* An even number of calls that takes about RUN_NS. */
-static int calls_in_a_run(const row *r)
+static void run_all(void)
 {
-    double ns = r->measure(r->proved, r->size, 100);
-    int count = (int)(RUN_NS / ns);
-    return count < 2 ? 2 : count & ~1;
+    for (int i = 0; i < ROWS; i++) {
+        row *r = &rows[i];
+        run(r->measure, r->proved, r->size, &r->ns);
+        run(r->measure, r->baseline, r->size, &r->baseline_ns);
+    }
+    for (int i = 0; i < CURVES; i++)
+        for (int j = 0; j < LENGTHS; j++)
+            run(curves[i].measure, curves[i].proved, lengths[j], &curves[i].ns[j]);
+}
+
+/* ---- the tables */
+
+/* To two decimals, as budgets are given. */
+static double ratio(const row *r)
+{
+    return (int)(100 * r->ns / r->baseline_ns + 0.5) / 100.0;
+}
+
+static int is_over(const row *r)
+{
+    return r->budget != 0 && ratio(r) > r->budget + 0.001;
+}
+
+static void print_rows(void)
+{
+    printf("%-28s %10s %10s %8s %8s\n", "call", "ns a call", "ns of C", "ratio", "budget");
+    for (int i = 0; i < ROWS; i++) {
+        const row *r = &rows[i];
+        printf("%-28s %10.1f %10.1f %8.2f", r->name, r->ns, r->baseline_ns, ratio(r));
+        if (r->budget == 0)
+            printf(" %8s\n", "-");
+        else
+            printf(" %8.2f%s\n", r->budget, is_over(r) ? "  over" : "");
+    }
+}
+
+static void print_curves(void)
+{
+    printf("\n%-14s", "message");
+    for (int j = 0; j < LENGTHS; j++)
+        printf(" %10zu bytes", lengths[j]);
+    printf("\n");
+    for (int i = 0; i < CURVES; i++) {
+        const curve *c = &curves[i];
+        printf("%-14s", c->name);
+        for (int j = 0; j < LENGTHS; j++)
+            printf(" %13.0f ns", c->ns[j]);
+        printf("\n%-14s", "  a byte");
+        for (int j = 0; j < LENGTHS; j++) {
+            if (lengths[j] == 0)
+                printf(" %13s   ", "-");
+            else
+                printf(" %13.1f ns", c->ns[j] / (double)lengths[j]);
+        }
+        printf("\n");
+    }
+}
+
+static void print_budgets(void)
+{
+    int over = 0;
+    printf("\nBest of %d short runs of each.\n", REPETITIONS);
+    for (int i = 0; i < ROWS; i++) {
+        const row *r = &rows[i];
+        if (!is_over(r))
+            continue;
+        over = 1;
+        printf("%s is over its budget by %.2f: %.2f times C, where %.2f is allowed.\n", r->name,
+               ratio(r) - r->budget, ratio(r), r->budget);
+    }
+    if (!over)
+        printf("Every budget is kept.\n");
 }
 
 int main(void)
 {
     if (!all_agree())
         return 1;
-    printf("the archive and C agree on %d random blocks in each call\n\n", AGREEMENTS);
-
-    double proved[ROWS], baseline[ROWS];
-    int count[ROWS];
-    for (int i = 0; i < ROWS; i++) {
-        proved[i] = baseline[i] = 1e30;
-        count[i] = calls_in_a_run(&rows[i]);
-    }
-    for (int repetition = 0; repetition < REPETITIONS; repetition++) {
-        for (int i = 0; i < ROWS; i++) {
-            const row *r = &rows[i];
-            keep_least(&proved[i], r->measure(r->proved, r->size, count[i]));
-            keep_least(&baseline[i], r->measure(r->baseline, r->size, count[i]));
-        }
-    }
-
-    int over = 0;
-    printf("%-28s %10s %10s %8s %8s\n", "call", "ns a call", "ns of C", "ratio", "budget");
-    for (int i = 0; i < ROWS; i++) {
-        double ratio = proved[i] / baseline[i];
-        printf("%-28s %10.1f %10.1f %8.2f", rows[i].name, proved[i], baseline[i], ratio);
-        if (rows[i].budget == 0) {
-            printf(" %8s\n", "-");
-        } else {
-            int is_over = ratio > rows[i].budget;
-            printf(" %8.2f%s\n", rows[i].budget, is_over ? "  over" : "");
-            over |= is_over;
-        }
-    }
-    printf("\nbest of %d short runs each; every call works on what the call before gave\n", REPETITIONS);
-    return over;
+    for (int repetition = 0; repetition < REPETITIONS; repetition++)
+        run_all();
+    print_rows();
+    print_curves();
+    print_budgets();
+    return 0;
 }

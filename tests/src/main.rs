@@ -7,6 +7,8 @@
 //!     tests decrypt KEY BLOCK     the plaintext
 //!     tests cases COUNT [SEED]    lines of key, block, ciphertext: the published vectors, then
 //!                                 COUNT random ones by the tests' own cipher
+//!     tests records               what the program `records` has to print
+//!     tests lanes                 what the program `lanes` has to print
 //!
 //! The features `plain`, `links` and `shared` switch the groups on further calls, all on by default.
 
@@ -34,6 +36,7 @@ mod plain;
 mod random;
 #[cfg(all(feature = "plain", feature = "links", feature = "shared"))]
 mod runs;
+mod samples;
 #[cfg(feature = "shared")]
 mod sealing;
 mod shares;
@@ -131,7 +134,9 @@ fn main() -> ExitCode {
         Some(code) => code,
         None => {
             eprintln!("usage: tests [--self-test] [SEED]");
-            eprintln!("       tests encrypt KEY BLOCK | decrypt KEY BLOCK | cases COUNT [SEED]");
+            eprintln!(
+                "       tests encrypt KEY BLOCK | decrypt KEY BLOCK | cases COUNT [SEED] | records | lanes"
+            );
             ExitCode::from(2)
         }
     }
@@ -150,6 +155,14 @@ fn obey(words: &[&str]) -> Option<ExitCode> {
         }
         ["cases", count] => print_cases(count.parse().ok()?, SEED),
         ["cases", count, seed] => print_cases(count.parse().ok()?, number(seed)?),
+        ["records"] => {
+            samples::records();
+            Some(ExitCode::SUCCESS)
+        }
+        ["lanes"] => {
+            samples::lanes();
+            Some(ExitCode::SUCCESS)
+        }
         ["--self-test"] => self_test(SEED),
         ["--self-test", seed] => self_test(number(seed)?),
         [] => all_checks(SEED),

@@ -25,6 +25,11 @@ abbrev pub numberOf : Answer → ℕ
 numberOf (done vs) = 0
 numberOf (refused n) = n
 
+-- the values that it returns
+abbrev pub valuesOf : Answer → List ℕ
+valuesOf (done vs) = vs
+valuesOf (refused n) = []
+
 -- x where the work was done, y where it was refused
 abbrev pub ifDone {ℓ} : {A : Type ℓ} → Answer → A → A → A
 ifDone (done vs) x y = x

@@ -4,11 +4,13 @@ use mathlib.Core.List.{List, [], _∷_}
 use Prim.Native.Nat.{ℕ, zero, suc, _+_, _*_, _/_, _%_, _^_, _≤_, _<_}
 use native.Mathlib.Nat.{mod-lt, mod-eq-of-lt, pow-succ', mul-assoc, add-comm, add-mul-div-right, one-le-pow, div-one, add-zero}
 use native.Mathlib.Omega.{arith}
-use lib.ListN.{length, getD}
+use lib.ListN.{length, getD, drop, length-drop}
+use lib.Seq.{length-take-le}
 use lib.Arith.{digits-div, digits-lt, mod-mul}
 use Rattle.blocks.specs.Bytes.{Bytes}
 use Rattle.blocks.specs.Number.{bigEndian, value}
 use Rattle.blocks.specs.Put.{part, tab}
+use Rattle.blocks.proofs.Xor.{bytes-take, bytes-drop}
 use Rattle.blocks.proofs.Parts.{tab-part}
 
 pub bigEndian-length : (w x : ℕ) → length (bigEndian w x) ≡ w
@@ -65,6 +67,12 @@ bigEndian-value (x ∷ s) b =
     ap₂ (λ (n : ℕ) (l : List ℕ). n ∷ l)
     (ap (λ (n : ℕ). n % 256) (digits-div x (value-lt s (λ i. b (suc i)))) ∙ mod-eq-of-lt small)
     (ap (bigEndian (length s)) (add-comm (x * 256 ^ length s) (value s)) ∙ bigEndian-low (length s) x (value s) ∙ bigEndian-value s (λ i. b (suc i)))
+
+-- a part of a list is the bytes of the number that it says
+pub bigEndian-part : (at w : ℕ) (s : List ℕ) → Bytes s → at + w ≤ length s → bigEndian w (value (part at w s)) ≡ part at w s
+bigEndian-part at w s b h =
+    let size : length (part at w s) ≡ w = length-take-le w (drop at s) (simp length-drop (omega arith)) in
+    ap (λ (k : ℕ). bigEndian k (value (part at w s))) (sym size) ∙ bigEndian-value (part at w s) (bytes-take w (drop at s) (bytes-drop at s b))
 
 -- ---- four bytes
 

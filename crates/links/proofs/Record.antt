@@ -9,7 +9,7 @@ use Rattle.blocks.specs.Bytes.{Bytes, Block}
 use Rattle.blocks.specs.Number.{bigEndian, value}
 use Rattle.blocks.specs.Put.{part, put}
 use Rattle.blocks.proofs.Xor.{bytes-take, bytes-drop, bytes-append, bytes-replicate}
-use Rattle.blocks.proofs.Numbers.{bigEndian-length, bigEndian-bytes, bigEndian-says, bigEndian-value}
+use Rattle.blocks.proofs.Numbers.{bigEndian-length, bigEndian-bytes, bigEndian-says, bigEndian-part}
 use Rattle.links.specs.Record.{numberSize, sequenceSize, tagSize, headSize, recordSize, counterBlock, recordOf, linkIn, sequenceIn, textIn, tagIn}
 
 pub counter-block : (n s i : ℕ) → Block (counterBlock n s i)
@@ -72,11 +72,6 @@ unfolding recordOf
 record-made r b h =
     let n : ℕ = length r - recordSize 0 in
     let e : headSize + n ≡ length r - tagSize = omega arith in
-    ap₂ (λ (x y : List ℕ). x ++ (y ++ (textIn r ++ tagIn r))) (number 0 numberSize (omega arith)) (number numberSize sequenceSize (omega arith))
+    ap₂ (λ (x y : List ℕ). x ++ (y ++ (textIn r ++ tagIn r))) (bigEndian-part 0 numberSize r b (omega arith)) (bigEndian-part numberSize sequenceSize r b (omega arith))
     ∙ ap (λ (k : ℕ). part 0 numberSize r ++ (part numberSize sequenceSize r ++ (textIn r ++ drop k r))) (sym e)
     ∙ rw (← drop-drop n headSize r, take-append-drop n (drop headSize r), ← drop-drop sequenceSize numberSize r, take-append-drop sequenceSize (drop numberSize r), take-append-drop numberSize r)
-  where
-    number : (at w : ℕ) → at + w ≤ length r → bigEndian w (value (part at w r)) ≡ part at w r
-    number at w l =
-        let size : length (part at w r) ≡ w = length-take-le w (drop at r) (simp length-drop (omega arith)) in
-        ap (λ (k : ℕ). bigEndian k (value (part at w r))) (sym size) ∙ bigEndian-value (part at w r) (bytes-take w (drop at r) (bytes-drop at r b))

@@ -12,7 +12,7 @@ use Rattle.blocks.specs.Bytes.{Bytes}
 use Rattle.blocks.specs.Number.{bigEndian, value}
 use Rattle.blocks.specs.Put.{part, put}
 use Rattle.blocks.proofs.Xor.{bytes-take, bytes-drop}
-use Rattle.blocks.proofs.Numbers.{bigEndian-says, bigEndian-value}
+use Rattle.blocks.proofs.Numbers.{bigEndian-says, bigEndian-part}
 use Rattle.blocks.proofs.Parts.{put-put, put-three}
 use Rattle.links.specs.Record.{numberSize, sequenceSize}
 use Rattle.links.specs.Links.{freshSender}
@@ -58,12 +58,6 @@ bytes-say n k x l e m hx hl he hm = record {
   km = sym (ap (take n) (sym (drop-drop n keysAt (linkBytes k x l e m)) ∙ drop-at e m n he) ∙ take-all n m (omega arith));
 }
 
--- a part of a list is the bytes of the number that it says
-number-part : (at w : ℕ) (b : List ℕ) → Bytes b → at + w ≤ length b → bigEndian w (value (part at w b)) ≡ part at w b
-number-part at w b h s =
-    let size : length (part at w b) ≡ w = length-take-le w (drop at b) (simp length-drop (omega arith)) in
-    ap (λ (i : ℕ). bigEndian i (value (part at w b))) (sym size) ∙ bigEndian-value (part at w b) (bytes-take w (drop at b) (bytes-drop at b h))
-
 first-byte : (x : ℕ) → x ≤ 1 → flag (eqb x 1) ≡ x
 first-byte zero h = refl
 first-byte (suc zero) h = refl
@@ -78,7 +72,7 @@ bytes-said n (y ∷ b) h f k x l e m s =
     ap (λ (z : List ℕ). take n rest ++ z) (take-all n (drop (keysAt + n) (y ∷ b)) (simp length-drop (omega arith)) ∙ sym (drop-drop n keysAt (y ∷ b)))
     ∙ take-append-drop n rest in
     (λ i. linkBytes (s .keyed i) (s .number i) (s .last i) (s .ke i) (s .km i))
-    ∙ (λ i. first-byte y f i ∷ (number-part 1 numberSize (y ∷ b) h (omega arith) i ++ (number-part (1 + numberSize) sequenceSize (y ∷ b) h (omega arith) i ++ keys i)))
+    ∙ (λ i. first-byte y f i ∷ (bigEndian-part 1 numberSize (y ∷ b) h (omega arith) i ++ (bigEndian-part (1 + numberSize) sequenceSize (y ∷ b) h (omega arith) i ++ keys i)))
     ∙ rw (← drop-drop sequenceSize numberSize b, take-append-drop sequenceSize (drop numberSize b), take-append-drop numberSize b)
 
 -- ---- sending links, and receiving links

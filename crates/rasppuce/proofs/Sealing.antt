@@ -10,7 +10,7 @@ use lib.Seq.{length-take-le, take-length, drop-length}
 use borrow.Author.Tests.{ltb-false}
 use Rattle.blocks.specs.Number.{bigEndian}
 use Rattle.blocks.specs.Put.{put}
-use Rattle.answers.specs.Answer.{Answer, done, refused, numberOf, output}
+use Rattle.answers.specs.Answer.{Answer, done, refused, numberOf, output, valuesOf}
 use Rattle.answers.proofs.First.{if-done, if-refused}
 use Rattle.links.specs.Links.{freshSender}
 use Rattle.links.specs.declared.Sender.{Sender}
@@ -22,7 +22,7 @@ use Rattle.calls.specs.Entry.{sealCauses, sealAnswer, sealLink, sealShares, sea
 use Rattle.calls.specs.Demand.{Accepted}
 use Rattle.calls.proofs.Accepted.{sealable, room}
 use Rattle.rasppuce.specs.Lent.{senderSize, senderIn, senderBytes}
-use Rattle.rasppuce.specs.Calls.{countSize, sharesSize, roomIn, sealedAnswer, sealedLink, recordOutput, sharesOutput, valuesOf}
+use Rattle.rasppuce.specs.Calls.{countSize, sharesSize, roomIn, sealedAnswer, sealedLink, recordOutput, sharesOutput}
 use Rattle.rasppuce.proofs.Told.{told-done, told-refused}
 
 keyed-in : (b : Bool) (x : Sender) (m t : List ℕ) (o : ℕ) → numberOf (sealAnswer (cond b x freshSender) m t o) ≡ 0 → T b

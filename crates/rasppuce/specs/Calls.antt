@@ -65,8 +65,3 @@ recordOutput link m t o s = output (sealedAnswer link m t (length o) (length s))
 abbrev pub sharesOutput : List ℕ → List ℕ → List ℕ → List ℕ → List ℕ → List ℕ
 sharesOutput link m t o s =
     output (sealedAnswer link m t (length o) (length s)) (flat (tagShares (senderIn link) m (at t)) ++ bigEndian countSize (tapeNeed (length m))) s
-
--- the values of an answer
-abbrev pub valuesOf : Answer → List ℕ
-valuesOf (done vs) = vs
-valuesOf (refused n) = []

@@ -9,12 +9,12 @@ ghost use Prim.Native.Nat.{_^_, _≤_, _<_};
 ghost use lib.ListN.{length, getD};
 ghost use Rattle.blocks.specs.Number.{bigEndian};
 ghost use Rattle.blocks.specs.Put.{put};
-ghost use Rattle.answers.specs.Answer.{numberOf};
+ghost use Rattle.answers.specs.Answer.{numberOf, valuesOf};
 ghost use Rattle.plain.specs.Entry.{plainSays, plainAnswer, plainOutput};
 ghost use Rattle.calls.specs.Entry.{reportAnswer, reportOutput};
 ghost use Rattle.sealing.specs.Says.{sealSays, reportSays};
 ghost use Rattle.rasppuce.specs.Lent.{senderSize, senderIn, senderBytes};
-ghost use Rattle.rasppuce.specs.Calls.{senderKeying, keyedSender, countSize, sharesSize, roomIn, sealedAnswer, sealedLink, recordOutput, sharesOutput, valuesOf};
+ghost use Rattle.rasppuce.specs.Calls.{senderKeying, keyedSender, countSize, sharesSize, roomIn, sealedAnswer, sealedLink, recordOutput, sharesOutput};
 
 // ---- the link
 

@@ -1,0 +1,207 @@
+/*
+ * The calls of librasppuce.a and those of baseline.c give the same on random inputs: the same answer,
+ * and the same bytes in everything that was lent, past the result too. Some inputs are to be refused.
+ * Shared sealing also has to give C's plain record.
+ */
+#include "baseline.h"
+#include "bench.h"
+#include "rasppuce.h"
+
+#include <stdio.h>
+#include <string.h>
+
+enum {
+    BLOCKS = 100000,       /* random inputs of each block call */
+    PLAIN_RECORDS = 20000, /* of plain sealing, and of opening */
+    SHARED_RECORDS = 2000, /* of shared sealing */
+    KEYS = RASPPUCE_RECEIVER_KEY_BYTES,
+    MESSAGE = RASPPUCE_MESSAGE_MOST + 1,
+    RECORD = RASPPUCE_RECORD_MOST + 2
+};
+
+/* ---- random bytes (splitmix64) */
+
+static uint64_t random_state = 0x0123456789abcdef;
+
+static uint64_t random_number(void)
+{
+    uint64_t z = random_state += 0x9e3779b97f4a7c15;
+    z = (z ^ (z >> 30)) * 0xbf58476d1ce4e5b9;
+    z = (z ^ (z >> 27)) * 0x94d049bb133111eb;
+    return z ^ (z >> 31);
+}
+
+static size_t random_below(size_t n)
+{
+    return (size_t)(random_number() % n);
+}
+
+static void random_bytes(uint8_t *bytes, size_t length)
+{
+    for (size_t i = 0; i < length; i++)
+        bytes[i] = (uint8_t)(random_number() >> 56);
+}
+
+/* A number that is small once in a while, and 0 at times. */
+static uint32_t random_sequence(void)
+{
+    return random_below(8) == 0 ? (uint32_t)random_below(3) : (uint32_t)random_number();
+}
+
+/* The length of an output: `need` or one more, and once in a while one less. */
+static size_t random_room(size_t need)
+{
+    return random_below(32) == 0 ? need - 1 : need + random_below(2);
+}
+
+/* ---- both give the same */
+
+static int differ(const char *name, int trial)
+{
+    printf("%s: the archive and C differ on random input %d\n", name, trial);
+    return 0;
+}
+
+static int blocks_agree(const char *name, block_call *proved, block_call *baseline)
+{
+    for (int i = 0; i < BLOCKS; i++) {
+        uint8_t key[16], input[16], a[16], b[16];
+        size_t size = random_below(32) == 0 ? 15 : 16;
+        random_bytes(key, 16);
+        random_bytes(input, 16);
+        random_bytes(a, 16);
+        memcpy(b, a, 16);
+        uint32_t x = proved(key, 16, input, size, a, 16);
+        uint32_t y = baseline(key, 16, input, size, b, 16);
+        if (x != y || memcmp(a, b, 16) != 0)
+            return differ(name, i);
+    }
+    return 1;
+}
+
+/* Encrypting and decrypting with C alone gives the block back, so the two directions of C fit. */
+static int c_decrypts(void)
+{
+    uint8_t key[16], block[16], there[16], back[16];
+    random_bytes(key, 16);
+    random_bytes(block, 16);
+    baseline_encrypt_packed(key, 16, block, 16, there, 16);
+    baseline_decrypt_packed(key, 16, there, 16, back, 16);
+    if (memcmp(block, back, 16) == 0)
+        return 1;
+    printf("C does not decrypt what it encrypts\n");
+    return 0;
+}
+
+static int plain_sealings_agree(void)
+{
+    for (int i = 0; i < PLAIN_RECORDS; i++) {
+        uint8_t keys[KEYS], message[MESSAGE], a[RECORD], b[RECORD];
+        size_t length = random_below(MESSAGE + 1), room = random_room(length + RASPPUCE_RECORD_ADDS);
+        uint32_t number = (uint32_t)random_number(), sequence = random_sequence();
+        random_bytes(keys, KEYS);
+        random_bytes(message, MESSAGE);
+        random_bytes(a, RECORD);
+        memcpy(b, a, RECORD);
+        uint32_t x = rasppuce_seal_plain(keys, KEYS, number, sequence, message, length, a, room);
+        uint32_t y = baseline_seal_plain(keys, KEYS, number, sequence, message, length, b, room);
+        if (x != y || memcmp(a, b, RECORD) != 0)
+            return differ("plain seal", i);
+    }
+    return 1;
+}
+
+static int openings_agree(void)
+{
+    for (int i = 0; i < PLAIN_RECORDS; i++) {
+        uint8_t keys[KEYS], message[MESSAGE], record[RECORD], a[MESSAGE], b[MESSAGE];
+        uint8_t link[RASPPUCE_RECEIVER_BYTES] = {0}, link_of_c[RASPPUCE_RECEIVER_BYTES];
+        size_t length = random_below(RASPPUCE_MESSAGE_MOST + 1), room = length == 0 ? 0 : random_room(length);
+        size_t record_len = length + RASPPUCE_RECORD_ADDS;
+        uint32_t number = (uint32_t)random_number();
+        random_bytes(keys, KEYS);
+        random_bytes(message, MESSAGE);
+        random_bytes(a, MESSAGE);
+        memcpy(b, a, MESSAGE);
+        baseline_seal_plain(keys, KEYS, number, 1 + random_sequence() / 2, message, length, record, RECORD);
+        if (random_below(8) == 0)
+            record[random_below(record_len)] ^= (uint8_t)(1 << random_below(8));
+        if (random_below(8) != 0)
+            rasppuce_key_receiver(link, sizeof link, number, keys, KEYS);
+        if (random_below(8) == 0)
+            random_bytes(link + 5, 4);
+        memcpy(link_of_c, link, sizeof link);
+        uint32_t x = rasppuce_open(link, sizeof link, record, record_len, a, room);
+        uint32_t y = baseline_open(link_of_c, sizeof link, record, record_len, b, room);
+        if (x != y || memcmp(link, link_of_c, sizeof link) != 0 || memcmp(a, b, MESSAGE) != 0)
+            return differ("open", i);
+        if (x == RASPPUCE_OK && memcmp(a, message, length) != 0)
+            return differ("opened message", i);
+    }
+    return 1;
+}
+
+/* The two keys that a sender's key shares join to. */
+static void join_keys(const uint8_t *shares, uint8_t *keys)
+{
+    for (int i = 0; i < 16; i++) {
+        keys[i] = shares[i] ^ shares[i + 16] ^ shares[i + 32];
+        keys[i + 16] = shares[i + 48] ^ shares[i + 64] ^ shares[i + 80];
+    }
+}
+
+static int shared_sealings_agree(void)
+{
+    static uint8_t tape[RASPPUCE_TAPE_BYTES(MESSAGE)];
+    enum { SHARES = RASPPUCE_SHARES_BYTES + 1 };
+    for (int i = 0; i < SHARED_RECORDS; i++) {
+        uint8_t key_shares[RASPPUCE_SENDER_KEY_BYTES], keys[KEYS], message[MESSAGE];
+        uint8_t a[RECORD], b[RECORD], plain[RECORD], shares[SHARES], shares_of_c[SHARES];
+        uint8_t link[RASPPUCE_SENDER_BYTES] = {0}, link_of_c[RASPPUCE_SENDER_BYTES];
+        size_t length = random_below(MESSAGE + 1), room = random_room(length + RASPPUCE_RECORD_ADDS);
+        size_t shares_room = random_room(RASPPUCE_SHARES_BYTES);
+        size_t tape_len = random_below(32) == 0 ? RASPPUCE_TAPE_BYTES(length) - 1 : sizeof tape;
+        uint32_t number = (uint32_t)random_number(), last = random_sequence() - 1;
+        random_bytes(key_shares, sizeof key_shares);
+        random_bytes(message, MESSAGE);
+        random_bytes(tape, sizeof tape);
+        random_bytes(a, RECORD);
+        memcpy(b, a, RECORD);
+        memcpy(plain, a, RECORD);
+        random_bytes(shares, SHARES);
+        memcpy(shares_of_c, shares, SHARES);
+        if (random_below(32) != 0)
+            rasppuce_key_sender(link, sizeof link, number, key_shares, sizeof key_shares);
+        for (int j = 0; j < 4; j++)
+            link[5 + j] = (uint8_t)(last >> (24 - 8 * j));
+        memcpy(link_of_c, link, sizeof link);
+        uint32_t x = rasppuce_seal(link, sizeof link, message, length, tape, tape_len, a, room,
+                                   shares, shares_room);
+        uint32_t y = baseline_seal(link_of_c, sizeof link, message, length, tape, tape_len, b, room,
+                                   shares_of_c, shares_room);
+        if (x != y || memcmp(link, link_of_c, sizeof link) != 0 || memcmp(a, b, RECORD) != 0
+            || memcmp(shares, shares_of_c, SHARES) != 0)
+            return differ("shared seal", i);
+        join_keys(key_shares, keys);
+        if (x == RASPPUCE_OK)
+            baseline_seal_plain(keys, KEYS, number, last + 1, message, length, plain, room);
+        if (memcmp(a, plain, RECORD) != 0)
+            return differ("shared seal and plain record", i);
+    }
+    return 1;
+}
+
+int all_agree(void)
+{
+    if (!c_decrypts()
+        || !blocks_agree("encrypt packed", rasppuce_encrypt_packed, baseline_encrypt_packed)
+        || !blocks_agree("decrypt packed", rasppuce_decrypt_packed, baseline_decrypt_packed)
+        || !blocks_agree("encrypt table", rasppuce_encrypt_table, baseline_encrypt_packed)
+        || !blocks_agree("decrypt table", rasppuce_decrypt_table, baseline_decrypt_packed)
+        || !plain_sealings_agree() || !openings_agree() || !shared_sealings_agree())
+        return 0;
+    printf("The archive and C agree on %d random blocks in each block call, on %d records plainly sealed,\n"
+           "on %d opened and on %d sealed on shares, of 0 to 256 bytes, refused ones among them.\n\n",
+           BLOCKS, PLAIN_RECORDS, PLAIN_RECORDS, SHARED_RECORDS);
+    return 1;
+}

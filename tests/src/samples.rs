@@ -1,0 +1,138 @@
+//! What the programs `records` and `lanes` have to print, by the code of these tests.
+
+use crate::hex::Hex;
+use crate::links;
+use crate::shares;
+
+const NUMBER: u32 = 0x0102_0304;
+
+/// Bytes that begin at `first` and rise by `step`, modulo 256.
+fn rising(length: usize, first: usize, step: usize) -> Vec<u8> {
+    (0..length).map(|i| (first + step * i) as u8).collect()
+}
+
+fn message(length: usize) -> Vec<u8> {
+    rising(length, 3, 7)
+}
+
+/// Digits, or `-` for no bytes.
+fn digits(bytes: &[u8]) -> String {
+    if bytes.is_empty() {
+        "-".to_string()
+    } else {
+        Hex(bytes).to_string()
+    }
+}
+
+// ---- plain sealing and opening
+
+fn seal_plain(keys: &[u8], sequence: u32, message: &[u8], room: usize) -> (u32, Vec<u8>) {
+    let mut record = vec![0; room];
+    let number = links::seal_plain(keys, NUMBER, sequence, message, &mut record);
+    (number, record)
+}
+
+fn print_opened(link: &mut [u8], record: &[u8]) {
+    let mut message = vec![0; record.len() - links::ADDED];
+    assert_eq!(links::open(link, record, &mut message), 0);
+    println!("open {} {}", message.len(), digits(&message));
+}
+
+fn print_refusal(what: &str, link: &mut [u8], record: &[u8], room: usize) {
+    println!("open {what} {}", links::open(link, record, &mut vec![0; room]));
+}
+
+pub fn records() {
+    let keys = rising(links::RECEIVER_KEYS, 0, 1);
+    let mut link = links::link(NUMBER, 0, &keys);
+    for (i, length) in [0, 1, 15, 16, 17, 31, 32, 255, 256].into_iter().enumerate() {
+        let (number, record) = seal_plain(&keys, i as u32 + 1, &message(length), length + links::ADDED);
+        assert_eq!(number, 0);
+        println!("seal {length} {}", digits(&record));
+        print_opened(&mut link, &record);
+    }
+
+    println!("seal 257 bytes {}", seal_plain(&keys, 1, &message(257), 281).0);
+    println!("seal sequence 0 {}", seal_plain(&keys, 0, &message(17), 281).0);
+    println!("seal keys of 31 bytes {}", seal_plain(&keys[..31], 1, &message(17), 281).0);
+    println!("seal output one short {}", seal_plain(&keys, 1, &message(17), 40).0);
+    let (number, record) = seal_plain(&keys, 10, &message(17), 41);
+    println!("seal 17 bytes {number}");
+
+    let damaged = |at: usize| {
+        let mut record = record.clone();
+        record[at] = record[at].wrapping_add(1);
+        record
+    };
+    print_refusal("not keyed", &mut [0; links::RECEIVER], &record, 17);
+    print_refusal("23 bytes", &mut link, &record[..23], 17);
+    print_refusal("281 bytes", &mut link, &[0; 281], 257);
+    print_refusal("other link", &mut link, &damaged(3), 17);
+    print_refusal("output one short", &mut link, &record, 16);
+    print_refusal("damaged ciphertext", &mut link, &damaged(8), 17);
+    print_refusal("damaged tag", &mut link, &damaged(40), 17);
+    print_refusal("damaged sequence", &mut link, &damaged(4), 17);
+    print_opened(&mut link, &record);
+    print_refusal("again", &mut link, &record, 17);
+}
+
+// ---- shared sealing and the report
+
+fn tape(length: usize) -> Vec<u8> {
+    rising(length, 5, 13)
+}
+
+fn print_sealed(link: &mut [u8], message: &[u8], tape: &[u8]) {
+    let mut record = vec![0; message.len() + links::ADDED];
+    let mut shares = [0; links::SHARES];
+    assert_eq!(links::seal(link, message, tape, &mut record, &mut shares), 0);
+    println!("seal {} {}", message.len(), digits(&record));
+    println!("shares {}", digits(&shares[..48]));
+    println!("used {}", u32::from_be_bytes(shares[48..].try_into().unwrap()));
+}
+
+fn print_lanes(link: &[u8], message: &[u8], call: u32) {
+    for round in [1, 18, 35] {
+        for lane in 0..3 {
+            let mut out = [0; links::LANE];
+            let tape = tape(shares::tape_need(message.len()));
+            assert_eq!(links::report(link, message, &tape, call, round, lane, &mut out), 0);
+            println!("lane {} {call} {round} {lane} {}", message.len(), digits(&out));
+        }
+    }
+}
+
+pub fn lanes() {
+    let mut link = links::link(NUMBER, 0, &rising(links::SENDER_KEYS, 1, 11));
+    for length in [0, 1, 15, 16, 17, 48, 256] {
+        print_sealed(&mut link, &message(length), &tape(shares::tape_need(length)));
+    }
+    for (length, calls) in [(0, &[1, 2][..]), (17, &[1, 3, 6])] {
+        for call in calls {
+            print_lanes(&link, &message(length), *call);
+        }
+    }
+
+    let need = shares::tape_need(0);
+    print_sealed(&mut link.clone(), &[], &tape(need));
+    print_sealed(&mut link.clone(), &[], &tape(need + 1));
+
+    let seal = |what: &str, link: &[u8], message: &[u8], tape: &[u8], room: usize| {
+        let mut shares = [0; links::SHARES];
+        let number = links::seal(&mut link.to_vec(), message, tape, &mut vec![0; room], &mut shares);
+        println!("seal {what} {number}");
+    };
+    let report = |what: &str, link: &[u8], message: &[u8], tape: &[u8], call: u32, room: usize| {
+        println!("report {what} {}", links::report(link, message, tape, call, 1, 0, &mut vec![0; room]));
+    };
+    let not_keyed = [0; links::SENDER];
+    seal("tape one short", &link, &[], &tape(need - 1), 24);
+    seal("257 bytes", &link, &message(257), &tape(need), 281);
+    seal("not keyed", &not_keyed, &[], &tape(need), 24);
+    seal("output one short", &link, &[], &tape(need), 23);
+    report("tape one short", &link, &[], &tape(need - 1), 1, 48);
+    report("call 3", &link, &[], &tape(need), 3, 48);
+    report("257 bytes", &link, &message(257), &tape(need), 1, 48);
+    report("not keyed", &not_keyed, &[], &tape(need), 1, 48);
+    report("output one short", &link, &[], &tape(need), 1, 47);
+}
