@@ -92,12 +92,13 @@ fn mask_key(key: [u8; 48], tape: &[u8], used: usize) -> Masked
     requires { ⌜ used + pairSize ≤ length (now tape) ⌝ }
     ensures { λ r. ⌜ (sharesOf (r .key) ≡ addShares (sharesIn key) (masksAt (at (now (tape .entry))) used)) × (r .used ≡ used + pairSize) ⌝ }
 {
-    let pair = shares::draw(tape, used);
-    let c = pair.u;
-    let d = pair.v;
+    let first = shares::draw(tape, used);
+    let second = shares::draw(tape, first.used);
+    let c = first.mask;
+    let d = second.mask;
     Masked {
         key: shares::mask(pack_shares(key), c, d),
-        used: pair.used,
+        used: second.used,
     }
 }
 

@@ -12,7 +12,7 @@ use Rattle.shares.specs.declared.Triple.{Triple}
 use Rattle.shares.specs.Shares.{Index, i₀, i₁, i₂, Shares, Blocks, add, each, spread}
 use Rattle.shares.specs.Tape.{Reader, pairSize, masksAt}
 use Rattle.shares.specs.Call.{shareRound, state, call, masked, roundKey}
-use Rattle.shares.specs.Packed.{sharesOf, onward}
+use Rattle.shares.specs.Packed.{sharesOf, onward, met}
 
 pub packed-blocks : (s : Triple) → Blocks (sharesOf s)
 packed-blocks s i₀ = unpacked-block (s .a)
@@ -37,14 +37,18 @@ module _ (M : Reader) (o n : ℕ) (s k : Shares) where
   unfolding onward
   onward-none = refl
 
+  pub met-none : met M o n s k 0 ≡ s
+  unfolding met
+  met-none = refl
+
   pub onward-more : (c r : ℕ) (t m l l′ t′ : Shares) (u v : List ℕ) → t ≡ onward M o n s k c → l ≡ each (rotated c) k
       → u ≡ M (o + pairSize * c) → v ≡ M (o + pairSize * c + 16) → m ≡ add t (spread u v) → l′ ≡ each (rotated 1) l → r ≡ n + c → t′ ≡ shareRound r m l′
-      → (t′ ≡ onward M o n s k (suc c)) × (l′ ≡ each (rotated (suc c)) k)
-  unfolding onward
+      → (m ≡ met M o n s k (suc c)) × (t′ ≡ onward M o n s k (suc c)) × (l′ ≡ each (rotated (suc c)) k)
+  unfolding onward met
   onward-more c r t m l l′ t′ u v et el eu ev em el′ er et′ =
       let turned : l′ ≡ each (rotated (suc c)) k = el′ ∙ ap (each (rotated 1)) el ∙ turned-more c k in
-      let met : m ≡ add (onward M o n s k c) (masksAt M (o + pairSize * c)) = em ∙ λ i. add (et i) (spread (eu i) (ev i)) in
-      (et′ ∙ λ i. shareRound (er i) (met i) (turned i), turned)
+      let entered : m ≡ add (onward M o n s k c) (masksAt M (o + pairSize * c)) = em ∙ λ i. add (et i) (spread (eu i) (ev i)) in
+      (entered, et′ ∙ λ i. shareRound (er i) (entered i) (turned i), turned)
 
 -- ---- in a call
 
@@ -59,40 +63,39 @@ module _ (key input : Shares) (M : Reader) (o : ℕ) where
       ∙ ap (λ (z : ℕ). shareRound (n + c) (add (state key input M o (n + c)) (masksAt M (o + pairSize * (n + c)))) (each (rotated z) key)) e
       ∙ ap (state key input M o) (sym e)
 
--- a call in three parts: n - 1 rounds, the round numbered n, and the rest
-module _ (k x : Shares) (b : Blocks k) (M : Reader) (o n a : ℕ) (s₀ s₁ k₁ m k₂ s₂ s₃ : Shares) (u v : List ℕ)
-    (first : 1 ≤ n) (last : n ≤ rounds)
-    (e₀ : s₀ ≡ add x k) (e₁ : s₁ ≡ onward M o 0 s₀ k (n - 1 - 0)) (f₁ : k₁ ≡ each (rotated (n - 1 - 0)) k)
-    (eu : u ≡ M (o + pairSize * (n - 1))) (ev : v ≡ M (o + pairSize * (n - 1) + 16)) (em : m ≡ add s₁ (spread u v))
-    (f₂ : k₂ ≡ each (rotated 1) k₁) (e₂ : s₂ ≡ shareRound (n - 1) m k₂)
-    (ea : a ≡ o + pairSize * (n - 1) + pairSize) (e₃ : s₃ ≡ onward M a n s₂ k₂ (rounds - n)) where
-  none : n - 1 - 0 ≡ n - 1
+-- a call in two parts: the rounds up to the one numbered n, and the rest
+module _ (k x : Shares) (b : Blocks k) (M : Reader) (o n a : ℕ) (s₀ m s₁ k₁ s₂ : Shares)
+    (low : 1 ≤ n) (high : n ≤ rounds) (e₀ : s₀ ≡ add x k)
+    (em : m ≡ met M o 0 s₀ k (n - 0)) (e₁ : s₁ ≡ onward M o 0 s₀ k (n - 0)) (f₁ : k₁ ≡ each (rotated (n - 0)) k)
+    (ea : a ≡ o + pairSize * (n - 0)) (e₂ : s₂ ≡ onward M a n s₁ k₁ (rounds - n)) where
+  none : n - 0 ≡ n
   none = omega arith
 
-  reached : s₁ ≡ state k x M o (n - 1)
+  up : n ≡ suc (n - 1)
+  up = omega arith
+
+  reached : (c : ℕ) → onward M o 0 s₀ k c ≡ state k x M o c
   unfolding state
-  reached =
+  reached c =
       let at : o ≡ o + pairSize * 0 = omega arith in
-      let z : 0 + (n - 1) ≡ n - 1 = omega arith in
-      e₁ ∙ (λ i. onward M (at i) 0 (e₀ i) (turned-none k b i) (none i)) ∙ onward-state k x M o 0 (n - 1) ∙ ap (state k x M o) z
+      let z : 0 + c ≡ c = omega arith in
+      (λ i. onward M (at i) 0 (e₀ i) (turned-none k b i) c) ∙ onward-state k x M o 0 c ∙ ap (state k x M o) z
 
   shown-state : m ≡ masked k x M o (n - 1)
-  unfolding masked
-  shown-state = em ∙ λ i. add (reached i) (spread (eu i) (ev i))
+  unfolding masked met
+  shown-state =
+      em ∙ ap (met M o 0 s₀ k) (none ∙ up)
+      ∙ ap (λ (s : Shares). add s (masksAt M (o + pairSize * (n - 1)))) (reached (n - 1))
 
-  shown-key : k₂ ≡ roundKey k x M o (n - 1)
+  shown-key : k₁ ≡ roundKey k x M o (n - 1)
   unfolding roundKey
-  shown-key = f₂ ∙ ap (each (rotated 1)) f₁ ∙ turned-more (n - 1 - 0) k ∙ ap (λ (j : ℕ). each (rotated (suc j)) k) none
+  shown-key = f₁ ∙ ap (λ (j : ℕ). each (rotated j) k) (none ∙ up)
 
-  reaches-end : s₃ ≡ call k x M o
-  unfolding masked roundKey state
+  reaches-end : s₂ ≡ call k x M o
   reaches-end =
-      let up : suc (n - 1) ≡ n = omega arith in
-      let at : a ≡ o + pairSize * n = omega arith in
-      let next : s₂ ≡ state k x M o n = e₂ ∙ (λ i. shareRound (n - 1) (shown-state i) (shown-key i)) ∙ ap (state k x M o) up in
-      let turned : k₂ ≡ each (rotated n) k = shown-key ∙ ap (λ (j : ℕ). each (rotated j) k) up in
       let z : n + (rounds - n) ≡ rounds = omega arith in
-      e₃ ∙ (λ i. onward M (at i) n (next i) (turned i) (rounds - n)) ∙ onward-state k x M o n (rounds - n) ∙ ap (state k x M o) z
+      e₂ ∙ (λ i. onward M ((ea ∙ ap (λ (j : ℕ). o + pairSize * j) none) i) n ((e₁ ∙ reached (n - 0) ∙ ap (state k x M o) none) i) ((f₁ ∙ ap (λ (j : ℕ). each (rotated j) k) none) i) (rounds - n))
+      ∙ onward-state k x M o n (rounds - n) ∙ ap (state k x M o) z
 
-  pub call-parts : (s₃ ≡ call k x M o) × (m ≡ masked k x M o (n - 1)) × (k₂ ≡ roundKey k x M o (n - 1))
+  pub call-parts : (s₂ ≡ call k x M o) × (m ≡ masked k x M o (n - 1)) × (k₁ ≡ roundKey k x M o (n - 1))
   call-parts = (reaches-end, shown-state, shown-key)

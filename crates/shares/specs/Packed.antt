@@ -22,8 +22,14 @@ module _ (M : Reader) (o n : ℕ) (s k : Shares) where
   onward zero = s
   onward (suc c) = shareRound (n + c) (add (onward c) (masksAt M (o + pairSize * c))) (each (rotated (suc c)) k)
 
+  -- the shares just after the last of c rounds' masks
+  unfoldable pub met : ℕ → Shares
+  met zero = s
+  met (suc c) = add (onward c) (masksAt M (o + pairSize * c))
+
   -- r is where c rounds lead
   pub record Onward (c : ℕ) (r : Run) : Type 0 where
+    pub masked : sharesOf (r .masked) ≡ met c
     pub state : sharesOf (r .state) ≡ onward c
     pub key : sharesOf (r .key) ≡ each (rotated c) k
     pub used : r .used ≡ o + pairSize * c

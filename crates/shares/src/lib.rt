@@ -165,29 +165,27 @@ fn rotate_shares(k: Triple) -> Triple
     }
 }
 
-// A pair of masks, and the count of tape bytes read with it.
-pub struct Pair {
-    pub u: [u32; 4],
-    pub v: [u32; 4],
+// A mask, and the count of tape bytes read with it.
+pub struct Drawn {
+    pub mask: [u32; 4],
     pub used: usize,
 }
 
-// The next pair of masks.
-pub fn draw(tape: &[u8], used: usize) -> Pair
-    requires { ⌜ used + pairSize ≤ length (now tape) ⌝ }
-    ensures { λ r. ⌜ (unpacked (r .u) ≡ at (now (tape .entry)) used) × (unpacked (r .v) ≡ at (now (tape .entry)) (used + 16)) × (r .used ≡ used + pairSize) ⌝ }
+// The next mask of the tape.
+pub fn draw(tape: &[u8], used: usize) -> Drawn
+    requires { ⌜ used + 16 ≤ length (now tape) ⌝ }
+    ensures { λ r. ⌜ (unpacked (r .mask) ≡ at (now (tape .entry)) used) × (r .used ≡ used + 16) ⌝ }
 {
-    let u = pack(blocks::block_at(tape, used));
-    let v = pack(blocks::block_at(tape, used + 16));
-    Pair {
-        u,
-        v,
-        used: used + 32,
+    Drawn {
+        mask: pack(blocks::block_at(tape, used)),
+        used: used + 16,
     }
 }
 
-// Where some rounds have led: the state's shares, the key's as last added, and the count of tape bytes read.
+// Where some rounds have led: the shares just after the last round's masks, the shares that it made, the key's as it added them,
+// and the count of tape bytes read.
 pub struct Run {
+    pub masked: Triple,
     pub state: Triple,
     pub key: Triple,
     pub used: usize,
@@ -198,22 +196,27 @@ fn run_rounds(s: Triple, k: Triple, tape: &[u8], used: usize, from: usize, to: u
     requires { ⌜ (from ≤ to) × (to ≤ rounds) × (used + pairSize * (to - from) ≤ length (now tape)) ⌝ }
     ensures { λ r. ⌜ Onward (at (now (tape .entry))) used from (sharesOf s) (sharesOf k) (to - from) r ⌝ }
 {
+    let mut masked = s;
     let mut state = s;
     let mut key = k;
     let mut read = used;
     let mut n = from;
     while n < to {
-        let pair = draw(tape, read);
-        let u = pair.u;
-        let v = pair.v;
+        let first = draw(tape, read);
+        let second = draw(tape, first.used);
+        let u = first.mask;
+        let v = second.mask;
         let turned = rotate_shares(key);
-        let next = share_round(mask(state, u, v), turned, n);
+        let met = mask(state, u, v);
+        let next = share_round(met, turned, n);
+        masked = met;
         state = next;
         key = turned;
-        read = pair.used;
+        read = second.used;
         n += 1;
     }
     Run {
+        masked,
         state,
         key,
         used: read,
@@ -233,16 +236,11 @@ pub fn call(key: Triple, input: Triple, tape: &[u8], used: usize, n: usize) -> C
     requires { ⌜ (1 ≤ n) × (n ≤ rounds) × (used + callSize ≤ length (now tape)) ⌝ }
     ensures { λ r. ⌜ Calls (sharesOf key) (sharesOf input) (at (now (tape .entry))) used n r ⌝ }
 {
-    let before = run_rounds(add_shares(input, key), key, tape, used, 0, n - 1);
-    let entering = before.state;
-    let last = before.key;
-    let pair = draw(tape, before.used);
-    let u = pair.u;
-    let v = pair.v;
-    let state = mask(entering, u, v);
-    let turned = rotate_shares(last);
-    let next = share_round(state, turned, n - 1);
-    let after = run_rounds(next, turned, tape, pair.used, n, 35);
+    let shown = run_rounds(add_shares(input, key), key, tape, used, 0, n);
+    let state = shown.masked;
+    let next = shown.state;
+    let turned = shown.key;
+    let after = run_rounds(next, turned, tape, shown.used, n, 35);
     let out = after.state;
     Called {
         out,

@@ -7,9 +7,7 @@ use Rattle.shares.proofs.draw.Tie as tie
 
 returns : tie.Need-returns
 unfolding at
-returns c = (c .before .before .pack .ensures ∙ c .before .before .before .block-at .ensures, c .pack2 .ensures ∙ c .before .block-at2 .ensures, refl)
+returns c = (c .pack .ensures ∙ c .before .block-at .ensures, refl)
 
 pub draw-spec : {M : Type 1} → statement M
-draw-spec =
-    tie.close
-    (tie.spec (λ c κs. search needs) (λ c κs. search needs) (λ c. search needs) (λ c κs. search needs) (λ c κs. search needs) (λ c. search needs) returns)
+draw-spec = tie.close (tie.spec (λ c κs. search needs) (λ c κs. search needs) (λ c. search needs) returns)

@@ -1,23 +1,24 @@
 -- `run_rounds` meets its contract. The loop has done the rounds up to the one numbered n. Assumes nothing.
-use mathlib.Core.Path.{_≡_, refl, sym, ap, _∙_}
+use mathlib.Core.Path.{_≡_, sym, ap, _∙_}
 use Prim.Native.Nat.{ℕ, suc, _+_, _-_, _*_, _≤_}
 use native.Mathlib.Omega.{arith}
 use borrow.Author.Needs.{needs}
 use Rattle.baksheesh.specs.Baksheesh.{rotated}
-use Rattle.shares.specs.Shares.{Shares, each}
+use Rattle.shares.specs.Shares.{each}
 use Rattle.shares.specs.Tape.{at, pairSize}
-use Rattle.shares.specs.Packed.{sharesOf, onward}
-use Rattle.shares.proofs.Onward.{packed-blocks, turned-none, onward-none, onward-more}
+use Rattle.shares.specs.Packed.{sharesOf, onward, met}
+use Rattle.shares.proofs.Onward.{packed-blocks, turned-none, onward-none, met-none, onward-more}
 use Rattle.shares.proofs.run_rounds.Statement.{statement}
 use Rattle.shares.proofs.run_rounds.Tie as tie
 
 abbrev Inv-loop : tie.InvT-loop
-Inv-loop tape used from to state₀ key₀ read₀ n₀ state key read n =
-    (from ≤ n) × (n ≤ to) × (sharesOf state ≡ onward (at tape) used from (sharesOf state₀) (sharesOf key₀) (n - from))
+Inv-loop tape used from to masked₀ state₀ key₀ read₀ n₀ masked state key read n =
+    (from ≤ n) × (n ≤ to) × (sharesOf masked ≡ met (at tape) used from (sharesOf state₀) (sharesOf key₀) (n - from))
+    × (sharesOf state ≡ onward (at tape) used from (sharesOf state₀) (sharesOf key₀) (n - from))
     × (sharesOf key ≡ each (rotated (n - from)) (sharesOf key₀)) × (read ≡ used + pairSize * (n - from))
 
 abbrev μ-loop : tie.MeasureT-loop
-μ-loop tape used from to state₀ key₀ read₀ n₀ state key read n = to - n
+μ-loop tape used from to masked₀ state₀ key₀ read₀ n₀ masked state key read n = to - n
 
 loop-holds : tie.Need-loop-holds Inv-loop μ-loop
 loop-holds c =
@@ -25,6 +26,7 @@ loop-holds c =
     let z : 0 ≡ a .from - a .from = omega arith in (
       omega arith,
       omega arith,
+      sym (met-none _ _ _ _ _) ∙ ap (met (at (a .tape .now)) (a .used) (a .from) (sharesOf (a .s)) (sharesOf (a .k))) z,
       sym (onward-none _ _ _ _ _) ∙ ap (onward (at (a .tape .now)) (a .used) (a .from) (sharesOf (a .s)) (sharesOf (a .k))) z,
       turned-none (sharesOf (a .k)) (packed-blocks (a .k)) ∙ ap (λ (n : ℕ). each (rotated n) (sharesOf (a .k))) z,
       omega arith,
@@ -32,20 +34,23 @@ loop-holds c =
 
 loop-again : tie.Need-loop-again Inv-loop μ-loop
 loop-again c =
-    let a = c .before .before .before .before .before .before .before .before .before .args in
-    let l = c .before .before .before .before .before .before .before .loop in
-    let d = c .before .before .before .before .before .draw .ensures in
+    let v = c .before .before .before .before .before in
+    let u = v .before in
+    let l = u .before .before .loop in
+    let a = u .before .before .before .before .args in
     let n : ℕ = l .n - a .from in
-    let here : a .used + pairSize * n ≡ l .read = sym (l .inv .4) in
+    let M = at (a .tape .now) in
+    let here : l .read ≡ a .used + pairSize * n = l .inv .5 in
     let more : suc n ≡ l .n + 1 - a .from = omega arith in
-    let went = onward-more (at (a .tape .now)) (a .used) (a .from) (sharesOf (a .s)) (sharesOf (a .k)) n (l .n) _ _ _ _ _ _ _ (l .inv .2) (l .inv .3)
-    (d .0 ∙ ap (at (a .tape .now)) (sym here)) (d .1 ∙ ap (λ (p : ℕ). at (a .tape .now) (p + 16)) (sym here)) (c .before .mask .ensures) (c .before .before .rotate-shares .ensures)
+    let went = onward-more M (a .used) (a .from) (sharesOf (a .s)) (sharesOf (a .k)) n (l .n) _ _ _ _ _ _ _ (l .inv .3) (l .inv .4)
+    (u .draw .ensures .0 ∙ ap M here) (v .draw2 .ensures .0 ∙ ap M (u .draw .ensures .1 ∙ ap (λ (p : ℕ). p + 16) here)) (c .before .mask .ensures) (c .before .before .rotate-shares .ensures)
     (omega arith) (c .share-round .ensures) in (
       omega arith,
       omega arith,
-      went .0 ∙ ap (onward (at (a .tape .now)) (a .used) (a .from) (sharesOf (a .s)) (sharesOf (a .k))) more,
-      went .1 ∙ ap (λ (n : ℕ). each (rotated n) (sharesOf (a .k))) more,
-      omega (arith, d .2, l .inv .4),
+      went .0 ∙ ap (met M (a .used) (a .from) (sharesOf (a .s)) (sharesOf (a .k))) more,
+      went .1 ∙ ap (onward M (a .used) (a .from) (sharesOf (a .s)) (sharesOf (a .k))) more,
+      went .2 ∙ ap (λ (n : ℕ). each (rotated n) (sharesOf (a .k))) more,
+      omega (arith, u .draw .ensures .1, v .draw2 .ensures .1, here),
     )
 
 returns : tie.Need-returns Inv-loop μ-loop
@@ -54,13 +59,14 @@ returns c =
     let l = c .before .loop in
     let e : l .n - a .from ≡ a .to - a .from = omega arith in
     record {
-      state = l .inv .2 ∙ ap (onward (at (a .tape .now)) (a .used) (a .from) (sharesOf (a .s)) (sharesOf (a .k))) e;
-      key = l .inv .3 ∙ ap (λ (n : ℕ). each (rotated n) (sharesOf (a .k))) e;
-      used = l .inv .4 ∙ ap (λ (n : ℕ). a .used + pairSize * n) e;
+      masked = l .inv .2 ∙ ap (met (at (a .tape .now)) (a .used) (a .from) (sharesOf (a .s)) (sharesOf (a .k))) e;
+      state = l .inv .3 ∙ ap (onward (at (a .tape .now)) (a .used) (a .from) (sharesOf (a .s)) (sharesOf (a .k))) e;
+      key = l .inv .4 ∙ ap (λ (n : ℕ). each (rotated n) (sharesOf (a .k))) e;
+      used = l .inv .5 ∙ ap (λ (n : ℕ). a .used + pairSize * n) e;
     }
 
 pub run-rounds-spec : {M : Type 1} → statement M
 run-rounds-spec =
     tie.close
-    (tie.spec Inv-loop μ-loop loop-holds (λ c κs. omega arith) (λ c κs. search needs) (λ c κs. search needs) (λ c κs. omega arith)
+    (tie.spec Inv-loop μ-loop loop-holds (λ c κs. omega arith) (λ c κs. omega (arith, c .draw .ensures .1)) (λ c κs. search needs) (λ c κs. search needs) (λ c κs. omega arith)
     (λ c. omega arith) (λ c. omega arith) loop-again returns)
