@@ -1,26 +1,96 @@
 //! The four block calls: encrypt and decrypt, by table and by packed words.
 
-use crate::calls::{Given, DECRYPT, ENCRYPT, NOT_A_BLOCK};
 use crate::cipher::{self, Block};
 use crate::hex::Hex;
+use crate::lent::{hold_answer, hold_as, Call, Lent};
+use crate::links::NOT_A_BLOCK;
 use crate::tally::Tally;
 use crate::vectors::PUBLISHED;
+
+/// Declares functions of the archive that take key, input and output.
+macro_rules! block_functions {
+    ($($name:ident)*) => {
+        #[link(name = "rasppuce", kind = "static")]
+        extern "C" {
+            $(fn $name(
+                key: *const u8,
+                key_len: usize,
+                input: *const u8,
+                input_len: usize,
+                output: *mut u8,
+                output_len: usize,
+            ) -> u32;)*
+        }
+    };
+}
+
+block_functions! {
+    rasppuce_encrypt_table
+    rasppuce_decrypt_table
+    rasppuce_encrypt_packed
+    rasppuce_decrypt_packed
+}
+
+/// One of the four: its function, and what it has to make of key and input.
+struct Function {
+    name: &'static str,
+    call: unsafe extern "C" fn(*const u8, usize, *const u8, usize, *mut u8, usize) -> u32,
+    own: fn(&Block, &Block) -> Block,
+}
+
+static ENCRYPT: [Function; 2] = [
+    Function { name: "rasppuce_encrypt_table", call: rasppuce_encrypt_table, own: cipher::encrypt },
+    Function { name: "rasppuce_encrypt_packed", call: rasppuce_encrypt_packed, own: cipher::encrypt },
+];
+
+static DECRYPT: [Function; 2] = [
+    Function { name: "rasppuce_decrypt_table", call: rasppuce_decrypt_table, own: cipher::decrypt },
+    Function { name: "rasppuce_decrypt_packed", call: rasppuce_decrypt_packed, own: cipher::decrypt },
+];
+
+#[derive(Clone)]
+struct BlockCall {
+    function: &'static Function,
+    key: Vec<u8>,
+    input: Vec<u8>,
+    output: Vec<u8>,
+}
+
+impl Call for BlockCall {
+    fn name(&self) -> &'static str {
+        self.function.name
+    }
+
+    fn slices(&mut self) -> Vec<(&'static str, &mut Vec<u8>)> {
+        vec![("key", &mut self.key), ("input", &mut self.input), ("output", &mut self.output)]
+    }
+
+    unsafe fn make(&self, lent: &[Lent]) -> u32 {
+        let [key, input, output] = lent else { panic!("three slices") };
+        let call = self.function.call;
+        call(key.pointer, key.length, input.pointer, input.length, output.pointer, output.length)
+    }
+
+    fn own(&mut self) -> u32 {
+        let blocks = (self.key[..].try_into(), self.input[..].try_into(), self.output.len());
+        let (Ok(key), Ok(input), 16) = blocks else { return NOT_A_BLOCK };
+        self.output = (self.function.own)(&key, &input).to_vec();
+        0
+    }
+}
 
 /// Random keys and blocks tried.
 const RANDOM_CASES: usize = 10_000;
 
-/// What stands in an output before a call that is to fill it.
-const BEFORE: Block = [0xee; 16];
-
 /// Holds all four calls on one key: they take the plaintext to the ciphertext and back.
 fn hold_both_ways(tally: &mut Tally, key: &Block, plaintext: &Block, ciphertext: &Block, shift: usize) {
-    for call in &ENCRYPT {
-        let given = Given { key, input: plaintext, output: &BEFORE, shift };
-        call.hold(tally, &given, 0, ciphertext);
-    }
-    for call in &DECRYPT {
-        let given = Given { key, input: ciphertext, output: &BEFORE, shift };
-        call.hold(tally, &given, 0, plaintext);
+    for (functions, from, to) in [(&ENCRYPT, plaintext, ciphertext), (&DECRYPT, ciphertext, plaintext)] {
+        for function in functions {
+            let before =
+                BlockCall { function, key: key.to_vec(), input: from.to_vec(), output: vec![0xee; 16] };
+            let after = BlockCall { output: to.to_vec(), ..before.clone() };
+            hold_as(tally, &before, 0, &after, shift);
+        }
     }
 }
 
@@ -75,67 +145,31 @@ pub fn every_byte(tally: &mut Tally) {
     }
 }
 
-/// All four calls with slices of these lengths: 0 for three blocks, else a refusal that
-/// leaves every byte as it was.
-fn hold_lengths(tally: &mut Tally, key: &[u8], input: &[u8], output: &[u8], shift: usize) {
-    let given = Given { key, input, output, shift };
-    let blocks: Option<(Block, Block)> = match (key.try_into(), input.try_into(), output.len()) {
-        (Ok(key), Ok(input), 16) => Some((key, input)),
-        _ => None,
-    };
-    for call in &ENCRYPT {
-        match blocks {
-            Some((key, input)) => call.hold(tally, &given, 0, &cipher::encrypt(&key, &input)),
-            None => call.hold(tally, &given, NOT_A_BLOCK, output),
-        }
-    }
-    for call in &DECRYPT {
-        match blocks {
-            Some((key, input)) => call.hold(tally, &given, 0, &cipher::decrypt(&key, &input)),
-            None => call.hold(tally, &given, NOT_A_BLOCK, output),
+/// All four calls with slices of any three of these lengths: 0 for three blocks, else a refusal
+/// that leaves every byte as it was.
+fn hold_lengths(tally: &mut Tally, lengths: &[usize]) {
+    let mut random = tally.random();
+    for &a in lengths {
+        for &b in lengths {
+            for &c in lengths {
+                let (key, input, output) = (random.bytes(a), random.bytes(b), random.bytes(c));
+                let answer = if (a, b, c) == (16, 16, 16) { 0 } else { NOT_A_BLOCK };
+                for function in ENCRYPT.iter().chain(&DECRYPT) {
+                    let (key, input, output) = (key.clone(), input.clone(), output.clone());
+                    let call = BlockCall { function, key, input, output };
+                    hold_answer(tally, &call, answer, random.number() as usize);
+                }
+            }
         }
     }
 }
 
 /// Every three lengths from 0 to 40.
 pub fn short_lengths(tally: &mut Tally) {
-    let mut random = tally.random();
-    let (key, input, output) = (random.bytes(40), random.bytes(40), random.bytes(40));
-    for a in 0..=40 {
-        for b in 0..=40 {
-            for c in 0..=40 {
-                hold_lengths(tally, &key[..a], &input[..b], &output[..c], random.number() as usize);
-            }
-        }
-    }
+    hold_lengths(tally, &Vec::from_iter(0..=40));
 }
 
 /// Longer slices, among them 16 more than a power of two.
 pub fn long_lengths(tally: &mut Tally) {
-    const LENGTHS: [usize; 9] = [0, 1, 15, 16, 17, 32, 256, 272, 65_552];
-    let mut random = tally.random();
-    let longest = LENGTHS[LENGTHS.len() - 1];
-    let (key, input, output) = (random.bytes(longest), random.bytes(longest), random.bytes(longest));
-    for a in LENGTHS {
-        for b in LENGTHS {
-            for c in LENGTHS {
-                hold_lengths(tally, &key[..a], &input[..b], &output[..c], random.number() as usize);
-            }
-        }
-    }
-}
-
-/// Empty slices with a null pointer are refused as any other empty slice.
-pub fn null_pointers(tally: &mut Tally) {
-    for call in ENCRYPT.iter().chain(&DECRYPT) {
-        for (a, b, c) in
-            [(0, 16, 16), (16, 0, 16), (16, 16, 0), (0, 0, 16), (0, 16, 0), (16, 0, 0), (0, 0, 0)]
-        {
-            let mut output = BEFORE;
-            let got = call.answer_with_nulls(&[1; 16][..a], &[2; 16][..b], &mut output[..c]);
-            let which = format!("{} with nulls, lengths {a}, {b}, {c}", call.name);
-            tally.same_number(format_args!("answer of {which}"), got, NOT_A_BLOCK);
-            tally.same(format_args!("output of {which}"), &output, &BEFORE);
-        }
-    }
+    hold_lengths(tally, &[0, 1, 15, 16, 17, 32, 256, 272, 65_552]);
 }

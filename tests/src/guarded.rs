@@ -20,10 +20,6 @@ impl Guarded {
         Guarded { whole, start, length: content.len() }
     }
 
-    pub fn pointer(&self) -> *const u8 {
-        self.whole[self.start..].as_ptr()
-    }
-
     pub fn pointer_mut(&mut self) -> *mut u8 {
         self.whole[self.start..].as_mut_ptr()
     }

@@ -21,15 +21,32 @@ extern "C" {
     ) -> u32;
 }
 
+/// One of the two: its function, and the lengths of link and keys that it takes.
+pub struct Side {
+    name: &'static str,
+    call: unsafe extern "C" fn(*mut u8, usize, u32, *const u8, usize) -> u32,
+    link: usize,
+    keys: usize,
+}
+
+pub static SENDING: Side =
+    Side { name: "rasppuce_key_sender", call: rasppuce_key_sender, link: SENDER, keys: SENDER_KEYS };
+
+pub static RECEIVING: Side =
+    Side { name: "rasppuce_key_receiver", call: rasppuce_key_receiver, link: RECEIVER, keys: RECEIVER_KEYS };
+
 #[derive(Clone)]
-pub struct KeySender {
+pub struct Key {
+    pub side: &'static Side,
     pub link: Vec<u8>,
     pub number: u32,
     pub keys: Vec<u8>,
 }
 
-impl Call for KeySender {
-    const NAME: &'static str = "rasppuce_key_sender";
+impl Call for Key {
+    fn name(&self) -> &'static str {
+        self.side.name
+    }
 
     fn slices(&mut self) -> Vec<(&'static str, &mut Vec<u8>)> {
         vec![("link", &mut self.link), ("keys", &mut self.keys)]
@@ -41,39 +58,11 @@ impl Call for KeySender {
 
     unsafe fn make(&self, lent: &[Lent]) -> u32 {
         let [link, keys] = lent else { panic!("two slices") };
-        rasppuce_key_sender(link.pointer, link.length, self.number, keys.pointer, keys.length)
+        (self.side.call)(link.pointer, link.length, self.number, keys.pointer, keys.length)
     }
 
     fn own(&mut self) -> u32 {
-        links::key_sender(&mut self.link, self.number, &self.keys)
-    }
-}
-
-#[derive(Clone)]
-pub struct KeyReceiver {
-    pub link: Vec<u8>,
-    pub number: u32,
-    pub keys: Vec<u8>,
-}
-
-impl Call for KeyReceiver {
-    const NAME: &'static str = "rasppuce_key_receiver";
-
-    fn slices(&mut self) -> Vec<(&'static str, &mut Vec<u8>)> {
-        vec![("link", &mut self.link), ("keys", &mut self.keys)]
-    }
-
-    fn numbers(&self) -> Vec<(&'static str, u32)> {
-        vec![("number", self.number)]
-    }
-
-    unsafe fn make(&self, lent: &[Lent]) -> u32 {
-        let [link, keys] = lent else { panic!("two slices") };
-        rasppuce_key_receiver(link.pointer, link.length, self.number, keys.pointer, keys.length)
-    }
-
-    fn own(&mut self) -> u32 {
-        links::key_receiver(&mut self.link, self.number, &self.keys)
+        links::key(&mut self.link, self.side.link, self.number, &self.keys)
     }
 }
 
@@ -81,13 +70,11 @@ impl Call for KeyReceiver {
 fn hold_both(tally: &mut Tally, link: usize, keys: usize, number: u32) {
     let mut random = tally.random_for(1000 * link + keys);
     let (link, keys) = (random.bytes(link), random.bytes(keys));
-    let shift = random.number() as usize;
-    let answer = |fits: bool| if fits { 0 } else { BAD_KEYS };
-    let fits_sender = link.len() == SENDER && keys.len() == SENDER_KEYS;
-    let fits_receiver = link.len() == RECEIVER && keys.len() == RECEIVER_KEYS;
-    let sender = KeySender { link: link.clone(), number, keys: keys.clone() };
-    hold_answer(tally, &sender, answer(fits_sender), shift);
-    hold_answer(tally, &KeyReceiver { link, number, keys }, answer(fits_receiver), shift);
+    for side in [&SENDING, &RECEIVING] {
+        let fits = link.len() == side.link && keys.len() == side.keys;
+        let call = Key { side, link: link.clone(), number, keys: keys.clone() };
+        hold_answer(tally, &call, if fits { 0 } else { BAD_KEYS }, random.number() as usize);
+    }
 }
 
 /// Every two lengths of link and keys to 130, and some longer ones.
@@ -109,22 +96,18 @@ pub fn lengths(tally: &mut Tally) {
 /// Fresh links, links keyed before, and link numbers at the ends of their range.
 pub fn links(tally: &mut Tally) {
     let mut random = tally.random();
-    for number in [0, 1, 2, 255, 256, 65_536, 0x0102_0304, 0x7fff_ffff, 0x8000_0000, u32::MAX] {
-        for byte in 0..=255 {
-            let (mut sender, mut receiver) = (random.bytes(SENDER), random.bytes(RECEIVER));
-            sender[0] = byte;
-            receiver[0] = byte;
-            let (three, joined) = (random.bytes(SENDER_KEYS), random.bytes(RECEIVER_KEYS));
-            let call = KeySender { link: sender, number, keys: three };
-            hold_answer(tally, &call, 0, random.number() as usize);
-            let call = KeyReceiver { link: receiver, number, keys: joined };
-            hold_answer(tally, &call, 0, random.number() as usize);
+    for side in [&SENDING, &RECEIVING] {
+        for number in [0, 1, 2, 255, 256, 65_536, 0x0102_0304, 0x7fff_ffff, 0x8000_0000, u32::MAX] {
+            for byte in 0..=255 {
+                let mut link = random.bytes(side.link);
+                link[0] = byte;
+                let call = Key { side, link, number, keys: random.bytes(side.keys) };
+                hold_answer(tally, &call, 0, random.number() as usize);
+            }
         }
+        let call = Key { side, link: vec![0; side.link], number: 5, keys: vec![9; side.keys] };
+        let keyed = hold_answer(tally, &call, 0, 0).left.link;
+        let expected = links::link(5, 0, &call.keys);
+        tally.same(format_args!("a fresh link, keyed by {}", side.name), &keyed, &expected);
     }
-    let call = KeySender { link: vec![0; SENDER], number: 5, keys: vec![9; SENDER_KEYS] };
-    let keyed = hold_answer(tally, &call, 0, 0).left.link;
-    tally.same(format_args!("a fresh sender, keyed"), &keyed, &links::link(5, 0, &[9; SENDER_KEYS]));
-    let call = KeyReceiver { link: vec![0; RECEIVER], number: 6, keys: vec![8; RECEIVER_KEYS] };
-    let keyed = hold_answer(tally, &call, 0, 0).left.link;
-    tally.same(format_args!("a fresh receiver, keyed"), &keyed, &links::link(6, 0, &[8; RECEIVER_KEYS]));
 }

@@ -39,7 +39,9 @@ pub struct Report {
 }
 
 impl Call for Report {
-    const NAME: &'static str = "rasppuce_report";
+    fn name(&self) -> &'static str {
+        "rasppuce_report"
+    }
 
     fn slices(&mut self) -> Vec<(&'static str, &mut Vec<u8>)> {
         vec![

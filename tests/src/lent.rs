@@ -14,7 +14,7 @@ pub struct Lent {
 
 /// The numbers that a call is given, and its slices as they stand before it.
 pub trait Call: Clone {
-    const NAME: &'static str;
+    fn name(&self) -> &'static str;
 
     /// The slices in the order of the C call, each with its name.
     fn slices(&mut self) -> Vec<(&'static str, &mut Vec<u8>)>;
@@ -139,7 +139,7 @@ pub struct Shown<'a, C>(pub &'a C);
 impl<C: Call> Display for Shown<'_, C> {
     fn fmt(&self, f: &mut Formatter) -> fmt::Result {
         let mut call = self.0.clone();
-        write!(f, "{}", C::NAME)?;
+        write!(f, "{}", call.name())?;
         for (name, number) in call.numbers() {
             write!(f, ", {name} {number}")?;
         }

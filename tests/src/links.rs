@@ -25,6 +25,7 @@ pub const BAD_KEYS: u32 = 1;
 pub const LONG_MESSAGE: u32 = 2;
 pub const SHORT_TAPE: u32 = 3;
 pub const SHORT_OUTPUT: u32 = 4;
+pub const NOT_A_BLOCK: u32 = 5;
 pub const BAD_LANE: u32 = 6;
 pub const BAD_RECORD: u32 = 7;
 pub const OTHER_LINK: u32 = 8;
@@ -78,21 +79,14 @@ pub fn joined_keys(sender_keys: &[u8]) -> Vec<u8> {
 
 // ---- keying
 
-fn key(link: &mut [u8], size: usize, number: u32, keys: &[u8]) -> u32 {
+/// Keys a link of this size: a sender or a receiver.
+pub fn key(link: &mut [u8], size: usize, number: u32, keys: &[u8]) -> u32 {
     if link.len() != size || keys.len() != size - 9 {
         return BAD_KEYS;
     }
     let keyed = self::link(number, 0, keys);
     put(link, 0, &keyed);
     0
-}
-
-pub fn key_sender(link: &mut [u8], number: u32, keys: &[u8]) -> u32 {
-    key(link, SENDER, number, keys)
-}
-
-pub fn key_receiver(link: &mut [u8], number: u32, keys: &[u8]) -> u32 {
-    key(link, RECEIVER, number, keys)
 }
 
 // ---- plain sealing and opening

@@ -9,35 +9,23 @@
 //!                                 COUNT random ones by the tests' own cipher
 //!     tests records               what the program `records` has to print
 //!     tests lanes                 what the program `lanes` has to print
-//!
-//! The features `plain`, `links` and `shared` switch the groups on further calls, all on by default.
-
-// What a feature that is off would use.
-#![cfg_attr(not(all(feature = "plain", feature = "links", feature = "shared")), allow(dead_code))]
 
 mod aes;
 mod blocks;
-mod calls;
 mod cipher;
 mod definition;
 mod guarded;
 mod hex;
-#[cfg(feature = "links")]
 mod keying;
-#[cfg(feature = "shared")]
 mod lanes;
 mod lent;
 mod links;
 mod modes;
-#[cfg(feature = "links")]
 mod opening;
-#[cfg(feature = "plain")]
 mod plain;
 mod random;
-#[cfg(all(feature = "plain", feature = "links", feature = "shared"))]
 mod runs;
 mod samples;
-#[cfg(feature = "shared")]
 mod sealing;
 mod shares;
 mod tally;
@@ -64,66 +52,35 @@ const GROUPS: &[(&str, fn(&mut Tally))] = &[
     ("block calls, every byte at every place", blocks::every_byte),
     ("block calls, lengths 0 to 40", blocks::short_lengths),
     ("block calls, longer slices", blocks::long_lengths),
-    ("block calls, null pointers", blocks::null_pointers),
-    #[cfg(feature = "links")]
     ("keying, lengths", keying::lengths),
-    #[cfg(feature = "links")]
     ("keying, links", keying::links),
-    #[cfg(feature = "plain")]
     ("plain sealing, messages", plain::messages),
-    #[cfg(feature = "plain")]
     ("plain sealing, outputs", plain::outputs),
-    #[cfg(feature = "plain")]
     ("plain sealing, keys", plain::keys),
-    #[cfg(feature = "plain")]
     ("plain sealing, numbers", plain::numbers),
-    #[cfg(feature = "plain")]
     ("plain sealing, refusals alone and together", plain::refusals),
-    #[cfg(feature = "plain")]
     ("plain sealing, random", plain::random),
-    #[cfg(feature = "links")]
     ("opening, messages", opening::messages),
-    #[cfg(feature = "links")]
     ("opening, outputs", opening::outputs),
-    #[cfg(feature = "links")]
     ("opening, damaged records", opening::damaged),
-    #[cfg(feature = "links")]
     ("opening, records cut and extended", opening::cut_and_extended),
-    #[cfg(feature = "links")]
     ("opening, other links", opening::other_links),
-    #[cfg(feature = "links")]
     ("opening, numbers", opening::numbers),
-    #[cfg(feature = "links")]
     ("opening, links not keyed", opening::not_keyed),
-    #[cfg(feature = "links")]
     ("opening, refusals alone and together", opening::refusals),
-    #[cfg(feature = "shared")]
     ("sealing, messages", sealing::messages),
-    #[cfg(feature = "shared")]
     ("sealing, tapes", sealing::tapes),
-    #[cfg(feature = "shared")]
     ("sealing, outputs", sealing::outputs),
-    #[cfg(feature = "shared")]
     ("sealing, numbers", sealing::numbers),
-    #[cfg(feature = "shared")]
     ("sealing, links not keyed", sealing::not_keyed),
-    #[cfg(feature = "shared")]
     ("sealing, refusals alone and together", sealing::refusals),
-    #[cfg(feature = "shared")]
     ("sealing, a kept link", sealing::kept_link),
-    #[cfg(feature = "shared")]
     ("report, every lane of some sealings", lanes::every_lane),
-    #[cfg(feature = "shared")]
     ("report, tag shares from the last lanes", lanes::tag_shares),
-    #[cfg(feature = "shared")]
     ("report, ranges", lanes::ranges),
-    #[cfg(feature = "shared")]
     ("report, lengths", lanes::lengths),
-    #[cfg(feature = "shared")]
     ("report, refusals alone and together", lanes::refusals),
-    #[cfg(feature = "shared")]
     ("report, one tape", lanes::one_tape),
-    #[cfg(all(feature = "plain", feature = "links", feature = "shared"))]
     ("all calls, mixed, over kept links", runs::mixed),
 ];
 

@@ -26,7 +26,9 @@ pub struct Open {
 }
 
 impl Call for Open {
-    const NAME: &'static str = "rasppuce_open";
+    fn name(&self) -> &'static str {
+        "rasppuce_open"
+    }
 
     fn slices(&mut self) -> Vec<(&'static str, &mut Vec<u8>)> {
         vec![("link", &mut self.link), ("record", &mut self.record), ("message", &mut self.message)]

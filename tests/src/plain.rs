@@ -29,7 +29,9 @@ pub struct SealPlain {
 }
 
 impl Call for SealPlain {
-    const NAME: &'static str = "rasppuce_seal_plain";
+    fn name(&self) -> &'static str {
+        "rasppuce_seal_plain"
+    }
 
     fn slices(&mut self) -> Vec<(&'static str, &mut Vec<u8>)> {
         vec![("keys", &mut self.keys), ("message", &mut self.message), ("record", &mut self.record)]

@@ -1,6 +1,6 @@
 //! Long runs of all calls in turn, over links that are kept from call to call.
 
-use crate::keying::{KeyReceiver, KeySender};
+use crate::keying::{Key, RECEIVING, SENDING};
 use crate::lanes::Report;
 use crate::lent::{hold, Call};
 use crate::links::{self, ADDED, LONGEST, RECEIVER, SENDER, SENDER_KEYS, SHARES};
@@ -85,16 +85,16 @@ fn accepted<C: Call>(tally: &mut Tally, random: &mut Random, call: &C) -> Option
 
 /// Keys both links anew, each now and then with material of a wrong length.
 fn key(tally: &mut Tally, random: &mut Random, rack: &mut Rack) {
-    let mut call =
-        KeySender { link: rack.sender.clone(), number: rack.number, keys: random.bytes(SENDER_KEYS) };
-    let fresh_keys = call.keys.clone();
+    let fresh_keys = random.bytes(SENDER_KEYS);
+    let (link, number) = (rack.sender.clone(), rack.number);
+    let mut call = Key { side: &SENDING, link, number, keys: fresh_keys.clone() };
     disturb(random, &mut call.keys);
     let Some(left) = accepted(tally, random, &call) else { return };
     rack.sender = left.link;
     rack.keys = fresh_keys;
     rack.records.clear();
     let joined = links::joined_keys(&rack.keys);
-    let mut call = KeyReceiver { link: rack.receiver.clone(), number: rack.number, keys: joined };
+    let mut call = Key { side: &RECEIVING, link: rack.receiver.clone(), number, keys: joined };
     disturb(random, &mut call.keys);
     if let Some(left) = accepted(tally, random, &call) {
         rack.receiver = left.link;

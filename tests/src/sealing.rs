@@ -34,7 +34,9 @@ pub struct Seal {
 }
 
 impl Call for Seal {
-    const NAME: &'static str = "rasppuce_seal";
+    fn name(&self) -> &'static str {
+        "rasppuce_seal"
+    }
 
     fn slices(&mut self) -> Vec<(&'static str, &mut Vec<u8>)> {
         vec![

@@ -1,10 +1,9 @@
 -- A refusal's number is that of the first cause that applies, and of no other. Assumes nothing.
 use mathlib.Core.Path.{_≡_, refl, sym, ap, _∙_, subst}
-use mathlib.Core.Bool.{Bool, true, false, not, cond}
+use mathlib.Core.Bool.{Bool, true, false, cond}
 use mathlib.Core.List.{List, [], _∷_}
 use Prim.Native.Nat.{ℕ}
 use native.Mathlib.Omega.{arith}
-use lib.Dec.{T}
 use Rattle.answers.specs.Answer.{Answer, done, refused, Cause, _when_, first, ifDone, FirstOf, here, later, NoneOf}
 
 pub refused-first : (n : ℕ) (cs : List Cause) (a : Answer) → FirstOf n cs → first cs a ≡ refused n

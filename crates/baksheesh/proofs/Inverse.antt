@@ -106,7 +106,3 @@ encrypt-decrypt k x p q =
 pub encrypt-block : (k x : List ℕ) → Block k → Block x → Block (encrypt k x)
 unfolding encrypt
 encrypt-block k x p q = after-block rounds k (x ⊕ k) (⊕-block q p)
-
-pub decrypt-block : (k x : List ℕ) → Block k → Block x → Block (decrypt k x)
-unfolding decrypt
-decrypt-block k x p q = ⊕-block (before-block rounds k x q) p

@@ -3,7 +3,7 @@
 use mathlib.Core.Path.{_≡_, ap, _∙_}
 use mathlib.Core.Bool.{Bool}
 use mathlib.Core.List.{List}
-use Prim.Native.Nat.{ℕ, zero, suc, _+_, _%_, _<_}
+use Prim.Native.Nat.{ℕ, zero, suc, _<_}
 use native.Mathlib.Omega.{arith}
 use lib.Dec.{T, ltb, ltb→lt}
 use lib.ListN.{getD}
@@ -13,7 +13,7 @@ use Rattle.blocks.specs.Bytes.{Block, _⊕_}
 use Rattle.blocks.specs.Bits.{bitAt}
 use Rattle.blocks.proofs.ByBits.{isBlock, bit-rearranged, rearranged-twice, rearranged-same, rearranged-block}
 use Rattle.blocks.proofs.Xor.{⊕-block}
-use Rattle.baksheesh.specs.Baksheesh.{sboxTable, invSboxTable, sbox, invSbox, cellOf, to, from, subCells, permBits, constant, rotated, round, after}
+use Rattle.baksheesh.specs.Baksheesh.{sboxTable, invSboxTable, sbox, invSbox, cellOf, to, from, permBits, constant, rotated, round, after}
 
 -- ---- SubCells
 

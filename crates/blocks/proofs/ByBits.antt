@@ -1,16 +1,15 @@
 -- Blocks and their bits: a block is known by its bits, XOR goes bit by bit; blocks by their cells. Assumes nothing.
 use mathlib.Core.Path.{_≡_, refl, sym, ap, ap₂, _∙_}
 use mathlib.Core.Bool.{Bool}
-use mathlib.Core.List.{List, [], _∷_}
+use mathlib.Core.List.{List, _∷_}
 use Prim.Native.Nat.{ℕ, zero, suc, _+_, _-_, _*_, _/_, _%_, _<_}
 use native.Mathlib.Nat.{le-of-suc-le-suc, not-suc-le-zero}
 use native.Mathlib.Omega.{arith}
 use lib.ListN.{length, getD}
 use lib.Seq.{ext-getD}
-use lib.Bits.{bitXor}
 use Rattle.bits.specs.Bit.{bit, number, _⊻_}
 use Rattle.bits.proofs.Laws.{bit-number, number-lt, number-same, number-bits, bit-xor}
-use Rattle.blocks.specs.Bytes.{Bytes, Block, _⊕_}
+use Rattle.blocks.specs.Bytes.{Block, _⊕_}
 use Rattle.blocks.specs.Bits.{bytesOf, blockOf, bitAt, cells, rearranged, eachCell}
 use Rattle.blocks.proofs.Xor.{⊕-block, getD-⊕}
 

@@ -2,7 +2,7 @@
 use mathlib.Core.Path.{_≡_, refl, sym, ap, ap₂, _∙_}
 use mathlib.Core.List.{List, [], _∷_}
 use Prim.Native.Nat.{ℕ, zero, suc, _+_, _*_, _/_, _%_, _^_, _≤_, _<_}
-use native.Mathlib.Nat.{mod-lt, mod-eq-of-lt, pow-succ', mul-assoc, add-comm, add-mul-div-right, one-le-pow, div-one, add-zero}
+use native.Mathlib.Nat.{mod-eq-of-lt, pow-succ', mul-assoc, add-comm, add-mul-div-right, one-le-pow, div-one, add-zero}
 use native.Mathlib.Omega.{arith}
 use lib.ListN.{length, getD, drop, length-drop}
 use lib.Seq.{length-take-le}
@@ -38,9 +38,6 @@ value-bigEndian (suc w) x =
 
 pub bigEndian-says : (w x : ℕ) → x < 256 ^ w → value (bigEndian w x) ≡ x
 bigEndian-says w x h = value-bigEndian w x ∙ mod-eq-of-lt h
-
-pub bigEndian-injective : (w x y : ℕ) → x < 256 ^ w → y < 256 ^ w → bigEndian w x ≡ bigEndian w y → x ≡ y
-bigEndian-injective w x y h k e = sym (bigEndian-says w x h) ∙ ap value e ∙ bigEndian-says w y k
 
 -- ---- from bytes to their number and back
 

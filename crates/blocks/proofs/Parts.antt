@@ -1,12 +1,12 @@
 -- Parts written one behind the other, and loops that write an element a turn. Assumes nothing.
 use mathlib.Core.Path.{_≡_, refl, ap, sym, _∙_}
 use mathlib.Core.List.{List, [], _∷_, _++_, append-assoc, append-nil}
-use Prim.Native.Nat.{ℕ, zero, suc, _+_, _≤_, _<_}
+use Prim.Native.Nat.{ℕ, zero, suc, _+_, _-_, _≤_, _<_}
 use native.Mathlib.Nat.{zero-add, add-zero, add-assoc}
 use native.Mathlib.Numerals.{add-one}
 use native.Mathlib.Omega.{arith}
-use lib.ListN.{length, getD, take, drop, set, length-append, length-drop, take-append-drop}
-use lib.Seq.{length-take-le, take-at, drop-at, drop-drop, drop-append-add, drop-cons, set-at, drop-length, getD-drop, take-suc, take-length, ext-getD}
+use lib.ListN.{length, getD, take, drop, set, replicate, length-append, length-drop, length-replicate, take-append-drop, replicate-append-replicate}
+use lib.Seq.{length-take-le, take-at, drop-at, drop-drop, drop-append-add, drop-cons, set-at, drop-length, getD-drop, take-suc, take-length}
 use Rattle.blocks.specs.Put.{put, tab, part}
 
 pub tab-length : (n : ℕ) (f : ℕ → ℕ) → length (tab n f) ≡ n
@@ -103,6 +103,23 @@ fill-done at i n f o out e d = e ∙ ap (λ (k : ℕ). put at (tab k f) o) d
 pub put-whole : (xs o : List ℕ) → length xs ≡ length o → put 0 xs o ≡ xs
 put-whole xs o e = put-start xs o ∙ ap (λ (k : ℕ). xs ++ drop k o) e ∙ ap (λ (z : List ℕ). xs ++ z) (drop-length o) ∙ append-nil xs
 
+-- the part of s from at to at + n written over it
+pub put-part : (at n : ℕ) (s o : List ℕ) → at + n ≤ length s → length o ≡ n → put 0 (part at (at + n - at) s) o ≡ part at n s
+put-part at n s o h l =
+    let e : at + n - at ≡ n = omega arith in
+    ap (λ (k : ℕ). put 0 (part at k s) o) e ∙ put-whole (part at n s) o (length-take-le n (drop at s) (omega (arith, length-drop at s)) ∙ sym l)
+
+-- written over zeros, from the start
+pub put-zeros : (xs : List ℕ) (n : ℕ) → length xs ≤ n → put 0 xs (replicate n 0) ≡ xs ++ replicate (n - length xs) 0
+put-zeros xs n h =
+    let k : ℕ = length xs in
+    let e : n ≡ k + (n - k) = omega arith in
+    put-start xs (replicate n 0)
+    ∙ ap (λ (z : List ℕ). xs ++ z)
+    (ap (λ (i : ℕ). drop {A = ℕ} k (replicate i 0)) e
+    ∙ ap (drop k) (sym (replicate-append-replicate k (n - k) 0))
+    ∙ drop-at (replicate k 0) (replicate (n - k) 0) k (length-replicate k 0))
+
 -- three parts written over a whole list
 pub put-three : (x y z o : List ℕ) (m n : ℕ) → m ≡ length x → n ≡ length x + length y → length x + length y + length z ≡ length o
     → put n z (put m y (put 0 x o)) ≡ x ++ (y ++ z)
@@ -115,9 +132,6 @@ put-three x y z o m n em en e =
 -- a loop that writes a whole list from its start
 pub all-none : (f : ℕ → ℕ) (o : List ℕ) → o ≡ put 0 (tab 0 f) o
 all-none = fill-none 0
-
-pub all-length : (i : ℕ) (f : ℕ → ℕ) (o out : List ℕ) → out ≡ put 0 (tab i f) o → i ≤ length o → length out ≡ length o
-all-length i f o out e h = fill-length 0 i f o out e (omega arith)
 
 pub all-more : (i v : ℕ) (f : ℕ → ℕ) (o out : List ℕ) → out ≡ put 0 (tab i f) o → i < length o → v ≡ f i → set out i v ≡ put 0 (tab (i + 1) f) o
 all-more i v f o out e h d = ap (λ (n : ℕ). set out n v) (sym (zero-add i)) ∙ fill-more 0 i v f o out e (omega arith) d

@@ -1,6 +1,5 @@
 // Parts of a slice: read and written as numbers, blocks and bytes.
 ghost use mathlib.Core.Path.{_≡_};
-ghost use mathlib.Core.List.{[], _∷_};
 ghost use Prim.Native.Nat.{_+_, _≤_, _<_};
 ghost use lib.ListN.{length};
 ghost use Rattle.blocks.specs.Bytes.{sameBytes};
@@ -32,34 +31,6 @@ pub fn put_number(out: &mut [u8], at: usize, x: u32)
     out[at + 3] = (x % 256) as u8;
 }
 
-// The 16 bytes from `at`.
-pub fn block_at(s: &[u8], at: usize) -> [u8; 16]
-    requires { ⌜ at + 16 ≤ length (now s) ⌝ }
-    ensures { λ r. ⌜ r ≡ part at 16 (now (s .entry)) ⌝ }
-{
-    let mut block = [0u8; 16];
-    let mut i = 0;
-    while i < 16 {
-        block[i] = s[at + i];
-        i += 1;
-    }
-    block
-}
-
-// The three blocks from `at`.
-pub fn blocks_at(s: &[u8], at: usize) -> [u8; 48]
-    requires { ⌜ at + 48 ≤ length (now s) ⌝ }
-    ensures { λ r. ⌜ r ≡ part at 48 (now (s .entry)) ⌝ }
-{
-    let mut blocks = [0u8; 48];
-    let mut i = 0;
-    while i < 48 {
-        blocks[i] = s[at + i];
-        i += 1;
-    }
-    blocks
-}
-
 // Writes the bytes of `src` from `at`.
 pub fn put_bytes(src: &[u8], out: &mut [u8], at: usize)
     requires { ⌜ at + length (now src) ≤ length (now out) ⌝ }
@@ -70,6 +41,26 @@ pub fn put_bytes(src: &[u8], out: &mut [u8], at: usize)
         out[at + i] = src[i];
         i += 1;
     }
+}
+
+// The 16 bytes from `at`.
+pub fn block_at(s: &[u8], at: usize) -> [u8; 16]
+    requires { ⌜ at + 16 ≤ length (now s) ⌝ }
+    ensures { λ r. ⌜ r ≡ part at 16 (now (s .entry)) ⌝ }
+{
+    let mut block = [0u8; 16];
+    put_bytes(&s[at..at + 16], &mut block, 0);
+    block
+}
+
+// The three blocks from `at`.
+pub fn blocks_at(s: &[u8], at: usize) -> [u8; 48]
+    requires { ⌜ at + 48 ≤ length (now s) ⌝ }
+    ensures { λ r. ⌜ r ≡ part at 48 (now (s .entry)) ⌝ }
+{
+    let mut blocks = [0u8; 48];
+    put_bytes(&s[at..at + 48], &mut blocks, 0);
+    blocks
 }
 
 // Whether the 16 bytes from `at` are those of `block`: all of them are looked at.

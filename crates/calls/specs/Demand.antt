@@ -1,7 +1,7 @@
 -- The words of the statements on sealing: what is accepted, what a probed lane shows, and what its parts join to.
 -- Assumes nothing.
 use mathlib.Core.Path.{_≡_}
-use mathlib.Core.List.{List, [], _∷_, _++_}
+use mathlib.Core.List.{List, [], _∷_}
 use Prim.Native.Nat.{ℕ, _+_, _-_, _*_, _%_, _^_, _<_}
 use lib.ListN.{length, replicate}
 use Rattle.blocks.specs.Bytes.{Bytes, _⊕_}

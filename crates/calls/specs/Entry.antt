@@ -1,11 +1,11 @@
 -- What shared sealing and the lane report answer, the link and the shares that come back, and the outputs at their end.
 -- Assumes nothing.
 use mathlib.Core.Bool.{Bool, not, _&&_}
-use mathlib.Core.List.{List, [], _∷_, _++_}
+use mathlib.Core.List.{List, [], _∷_}
 use Prim.Native.Nat.{ℕ, zero, suc, _+_}
 use lib.Dec.{eqb, ltb}
 use lib.ListN.{length, replicate}
-use Rattle.answers.specs.Answer.{Answer, done, refused, Cause, _when_, first, ifDone, output}
+use Rattle.answers.specs.Answer.{Answer, done, Cause, _when_, first, ifDone, output}
 use Rattle.baksheesh.specs.Baksheesh.{rounds}
 use Rattle.modes.specs.Pieces.{blockCount}
 use Rattle.links.specs.Record.{longest, recordSize}

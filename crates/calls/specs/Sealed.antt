@@ -4,8 +4,7 @@ use mathlib.Core.List.{List, _++_}
 use Prim.Native.Nat.{ℕ, zero, suc, _+_, _-_, _%_}
 use lib.Dec.{eqb}
 use lib.ListN.{length, take, replicate}
-use Rattle.blocks.specs.Bytes.{_⊕_, zeros}
-use Rattle.baksheesh.specs.Baksheesh.{rounds}
+use Rattle.blocks.specs.Bytes.{zeros}
 use Rattle.modes.specs.Pieces.{blockCount, piece}
 use Rattle.modes.specs.Ctr as Ctr
 use Rattle.modes.specs.Cmac.{doubled, padded}

@@ -10,7 +10,7 @@ use lib.Seq.{take-all}
 use borrow.Author.Tests.{eqb-true, not-false}
 use Rattle.blocks.specs.Put.{part, put}
 use Rattle.blocks.proofs.Same.{both-true}
-use Rattle.answers.specs.Answer.{Answer, done, refused}
+use Rattle.answers.specs.Answer.{done, refused}
 use Rattle.answers.proofs.First.{if-done, if-refused}
 use Rattle.engines.specs.Block.{blockAnswer, blockOutput}
 

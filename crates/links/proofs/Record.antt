@@ -1,14 +1,14 @@
 -- A record says its fields, and a string of bytes that is long enough is the record of its fields. Assumes nothing.
 use mathlib.Core.Path.{_≡_, refl, sym, ap, ap₂, _∙_}
-use mathlib.Core.List.{List, [], _∷_, _++_, append-assoc}
+use mathlib.Core.List.{List, _++_}
 use Prim.Native.Nat.{ℕ, _+_, _-_, _^_, _≤_, _<_}
 use native.Mathlib.Omega.{arith}
-use lib.ListN.{length, take, drop, length-append, length-drop, length-replicate, take-append-drop, replicate}
-use lib.Seq.{take-at, drop-at, drop-drop, length-take-le}
+use lib.ListN.{length, take, drop, length-append, length-replicate, take-append-drop, replicate}
+use lib.Seq.{take-at, drop-at, drop-drop}
 use Rattle.blocks.specs.Bytes.{Bytes, Block}
 use Rattle.blocks.specs.Number.{bigEndian, value}
 use Rattle.blocks.specs.Put.{part, put}
-use Rattle.blocks.proofs.Xor.{bytes-take, bytes-drop, bytes-append, bytes-replicate}
+use Rattle.blocks.proofs.Xor.{bytes-append, bytes-replicate}
 use Rattle.blocks.proofs.Numbers.{bigEndian-length, bigEndian-bytes, bigEndian-says, bigEndian-part}
 use Rattle.links.specs.Record.{numberSize, sequenceSize, tagSize, headSize, recordSize, counterBlock, recordOf, linkIn, sequenceIn, textIn, tagIn}
 

@@ -1,6 +1,5 @@
 // The sending link: what a sender holds between two calls, and its keying; counter blocks.
 ghost use mathlib.Core.Path.{_≡_};
-ghost use lib.ListN.{length};
 ghost use Rattle.answers.specs.Answer.{ifDone};
 ghost use Rattle.links.specs.Links.{senderKeys, keySays, keyAnswer, freshSender, senderOf};
 ghost use Rattle.links.specs.Record.{counterBlock};

@@ -1,7 +1,7 @@
 -- Counter mode: how long, which bytes, block by block, and that it undoes itself. Assumes nothing.
 use mathlib.Core.Path.{_≡_, refl, sym, ap, _∙_}
 use mathlib.Core.List.{List, [], _∷_, _++_}
-use Prim.Native.Nat.{ℕ, zero, suc, _+_, _*_, _<_, min}
+use Prim.Native.Nat.{ℕ, zero, suc, _+_, _*_, _≤_, _<_, min}
 use native.Mathlib.Numerals.{add-one}
 use native.Mathlib.Omega.{arith}
 use lib.ListN.{length, take, length-append}
@@ -46,26 +46,27 @@ module _ (E : List ℕ → List ℕ) (T : ℕ → List ℕ) where
   unfolding ctr
   ctr-joined m = ctrTo-joined m (blockCount (length m))
 
-  module _ (outputs : (j : ℕ) → Block (E (T j))) where
-    pub ctrPiece-length : (m : List ℕ) (j : ℕ) → length (ctrPiece E T m j) ≡ length (piece j m)
-    ctrPiece-length m j =
-        let o = outputs j in
-        ap length (ctrPiece-⊕ m j) ∙ ⊕-length (piece j m) (E (T j)) ∙ omega (arith, piece-le j m)
+  ctrPiece-size : (m : List ℕ) (j : ℕ) → length (ctrPiece E T m j) ≡ min (length (piece j m)) (length (E (T j)))
+  ctrPiece-size m j = ap length (ctrPiece-⊕ m j) ∙ ⊕-length (piece j m) (E (T j))
 
-    pub ctrTo-length : (m : List ℕ) (n : ℕ) → length (ctrTo E T m n) ≡ min (16 * n) (length m)
+  -- ---- where each output block is a whole block
+
+  module _ (m : List ℕ) (sized : (j : ℕ) → j < blockCount (length m) → length (E (T j)) ≡ 16) where
+    ctrPiece-length : (j : ℕ) → j < blockCount (length m) → length (ctrPiece E T m j) ≡ length (piece j m)
+    ctrPiece-length j h = ctrPiece-size m j ∙ omega (arith, sized j h, piece-le j m)
+
+    pub ctrTo-length : (n : ℕ) → n ≤ blockCount (length m) → length (ctrTo E T m n) ≡ min (16 * n) (length m)
     unfolding ctrTo
-    ctrTo-length m zero = omega arith
-    ctrTo-length m (suc n) =
+    ctrTo-length zero h = omega arith
+    ctrTo-length (suc n) h =
         length-append (ctrTo E T m n) (ctrPiece E T m n)
-        ∙ omega (arith, ctrTo-length m n, ctrPiece-length m n, piece-length n m)
+        ∙ omega (arith, ctrTo-length n (omega arith), ctrPiece-length n (omega arith), piece-length n m)
 
-    pub ctrTo-whole : (m : List ℕ) (n : ℕ) → n < blockCount (length m) → length (ctrTo E T m n) ≡ 16 * n
-    ctrTo-whole m n h = omega (arith, ctrTo-length m n)
-
-    pub ctr-length : (m : List ℕ) → length (ctr E T m) ≡ length m
+    pub ctr-length : length (ctr E T m) ≡ length m
     unfolding ctr
-    ctr-length m = omega (arith, ctrTo-length m (blockCount (length m)))
+    ctr-length = omega (arith, ctrTo-length (blockCount (length m)) (omega arith))
 
+  module _ (outputs : (j : ℕ) → Block (E (T j))) where
     pub ctrPiece-bytes : (m : List ℕ) → Bytes m → (j : ℕ) → Bytes (ctrPiece E T m j)
     ctrPiece-bytes m b j = rw (ctrPiece-⊕ m j) (⊕-bytes (piece j m) (E (T j)) (piece-bytes j m b) (outputs j .bytes))
 
@@ -76,8 +77,8 @@ module _ (E : List ℕ → List ℕ) (T : ℕ → List ℕ) where
     piece-ctr m j h =
         ap (piece j) (ctr-joined m)
         ∙ piece-joined (ctrPiece E T m) (blockCount (length m))
-        (λ i. omega (arith, ctrPiece-length m i, piece-le i m))
-        (λ i l. omega (arith, ctrPiece-length m i, piece-length i m)) j h
+        (λ i. omega (arith, ctrPiece-size m i, piece-le i m))
+        (λ i l. omega (arith, ctrPiece-length m (λ k _. outputs k .size) i (omega arith), piece-length i m)) j h
 
     -- a block twice is the message's
     again : (m : List ℕ) (j : ℕ) → j < blockCount (length m) → ctrPiece E T (ctr E T m) j ≡ piece j m
@@ -91,7 +92,7 @@ module _ (E : List ℕ → List ℕ) (T : ℕ → List ℕ) where
     pub ctr-ctr : (m : List ℕ) → ctr E T (ctr E T m) ≡ m
     ctr-ctr m =
         ctr-joined (ctr E T m)
-        ∙ ap (λ (n : ℕ). joined (ctrPiece E T (ctr E T m)) (blockCount n)) (ctr-length m)
+        ∙ ap (λ (n : ℕ). joined (ctrPiece E T (ctr E T m)) (blockCount n)) (ctr-length m (λ k _. outputs k .size))
         ∙ joined-same (ctrPiece E T (ctr E T m)) (λ j. piece j m) (blockCount (length m)) (again m)
         ∙ message-joined m
 

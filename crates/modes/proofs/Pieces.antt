@@ -14,26 +14,6 @@ use Rattle.modes.specs.Cmac.{macCount}
 
 -- ---- how many
 
-pub count-zero : (n : ℕ) → n ≡ 0 → blockCount n ≡ 0
-count-zero n e = omega arith
-
-pub zero-count : (n : ℕ) → blockCount n ≡ 0 → n ≡ 0
-zero-count n e = omega arith
-
--- the last has 1 to 16 bytes
-pub count-last : (n k : ℕ) → blockCount n ≡ k + 1 → (16 * k < n) × (n ≤ 16 * k + 16)
-count-last n k e = (omega arith, omega arith)
-
--- those before it are whole
-pub count-whole : (n j : ℕ) → j + 1 < blockCount n → 16 * j + 16 ≤ n
-count-whole n j h = omega arith
-
-pub count-below : (n j : ℕ) → j < blockCount n → 16 * j < n
-count-below n j h = omega arith
-
-pub count-more : (n : ℕ) → blockCount (16 + n) ≡ suc (blockCount n)
-count-more n = omega arith
-
 pub count-behind : (c t : List ℕ) → length c ≡ 16 → blockCount (length (c ++ t)) ≡ suc (blockCount (length t))
 count-behind c t e = ap blockCount (length-append c t) ∙ omega arith
 
@@ -50,9 +30,6 @@ piece-le j m = omega (arith, piece-length j m)
 
 pub piece-whole : (j : ℕ) (m : List ℕ) → 16 * j + 16 ≤ length m → length (piece j m) ≡ 16
 piece-whole j m h = omega (arith, piece-length j m)
-
-pub piece-last : (j : ℕ) (m : List ℕ) → length m ≤ 16 * j + 16 → length (piece j m) ≡ length m - 16 * j
-piece-last j m h = omega (arith, piece-length j m)
 
 pub piece-bytes : (j : ℕ) (m : List ℕ) → Bytes m → Bytes (piece j m)
 piece-bytes j m h = bytes-take 16 (drop (16 * j) m) (bytes-drop (16 * j) m h)

@@ -57,13 +57,8 @@ pub fn padded_at(text: &[u8], at: usize) -> [u8; 16]
     requires { ⌜ (at ≤ length (now text)) × (length (now text) < at + 16) ⌝ }
     ensures { λ r. ⌜ r ≡ padded (part at 16 (now (text .entry))) ⌝ }
 {
-    let n = text.len() - at;
     let mut block = [0u8; 16];
-    let mut i = 0;
-    while i < n {
-        block[i] = text[at + i];
-        i += 1;
-    }
-    block[n] = 0x80;
+    blocks::put_bytes(&text[at..], &mut block, 0);
+    block[text.len() - at] = 0x80;
     block
 }

@@ -1,30 +1,29 @@
 -- Opening accepts exactly the records that sealing makes for this link with a number above the last accepted, and
 -- returns that message. Assumes nothing.
-use mathlib.Core.Path.{_≡_, refl, sym, ap, ap₂, _∙_, subst}
-use mathlib.Core.Bool.{Bool, true, false, not}
+use mathlib.Core.Path.{_≡_, sym, ap, ap₂, _∙_, subst}
+use mathlib.Core.Bool.{true, not}
 use mathlib.Core.List.{List, [], _∷_}
 use mathlib.Core.Logic.{_↔_}
-use Prim.Native.Nat.{ℕ, _+_, _-_, _^_, _≤_, _<_}
+use Prim.Native.Nat.{ℕ, _-_, _^_, _≤_, _<_}
 use native.Mathlib.Omega.{arith}
 use lib.Dec.{eqb}
 use lib.ListN.{length, take, drop, length-drop}
 use lib.Seq.{length-take-le, take-at}
 use borrow.Author.Tests.{ltb-false, leb-false, eqb-true, not-false, le-ltb, le-leb, lt-leb, eq-eqb}
-use Rattle.blocks.specs.Bytes.{Bytes, Block, sameBytes}
-use Rattle.blocks.specs.Number.{value}
+use Rattle.blocks.specs.Bytes.{Bytes, sameBytes}
 use Rattle.blocks.specs.Put.{put, part}
 use Rattle.blocks.proofs.Xor.{bytes-take, bytes-drop}
 use Rattle.blocks.proofs.Numbers.{value-lt}
 use Rattle.blocks.proofs.Parts.{put-start}
 use Rattle.blocks.proofs.Same.{same-true, same-refl}
-use Rattle.answers.specs.Answer.{Answer, done, refused, first, FirstOf, NoneOf}
+use Rattle.answers.specs.Answer.{done, refused, FirstOf, NoneOf}
 use Rattle.answers.proofs.First.{none-done, done-none, done-values, if-done, first-refused, refused-first}
-use Rattle.links.specs.Record.{longest, recordSize, numberSize, sequenceSize, tagSize, headSize, recordOf, linkIn, sequenceIn, textIn, tagIn}
+use Rattle.links.specs.Record.{longest, recordSize, numberSize, sequenceSize, headSize, recordOf, linkIn, sequenceIn, textIn, tagIn}
 use Rattle.links.proofs.Record.{record-made}
 use Rattle.plain.specs.Plain.{crypted, tagOf, plainRecord}
 use Rattle.plain.proofs.Sealed.{crypted-length, crypted-bytes, crypted-twice, plain-length, plain-link, plain-sequence, plain-text, plain-tag}
 use Rattle.opening.specs.declared.Receiver.{Receiver}
-use Rattle.opening.specs.Open.{openAnswer, openCauses, openLink, openOutput, accepting, messageIn, messageSize, rightTag}
+use Rattle.opening.specs.Open.{openAnswer, openCauses, accepting, messageIn, messageSize, rightTag}
 use Rattle.opening.specs.Exactly.{Formed, Opens, Sealed}
 
 module _ (x : Receiver) (F : Formed x) where

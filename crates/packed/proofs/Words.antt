@@ -1,17 +1,16 @@
--- What the cipher's steps say of a block in packed form, and that each block has one. Assumes nothing.
-use mathlib.Core.Path.{_≡_, refl, sym, ap, ap₂, _∙_}
+-- What the cipher's steps say of a block in packed form. Assumes nothing.
+use mathlib.Core.Path.{_≡_, refl, ap, ap₂, _∙_}
 use mathlib.Core.Bool.{Bool, true, false}
 use mathlib.Core.List.{List, [], _∷_}
 use Prim.Native.Nat.{ℕ, _+_, _*_, _/_, _%_, _<_}
 use native.Mathlib.Omega.{arith}
 use lib.Dec.{T}
 use lib.ListN.{getD}
-use Rattle.bits.specs.Bit.{bit, number, _⊻_}
-use Rattle.bits.proofs.Laws.{bit-number}
+use Rattle.bits.specs.Bit.{bit, _⊻_}
 use Rattle.bits.proofs.Test.{below, four}
 use Rattle.blocks.specs.Bytes.{Block, _⊕_}
 use Rattle.blocks.specs.Bits.{bitAt, blockOf, cells, rearranged, eachCell}
-use Rattle.blocks.proofs.ByBits.{isBlock, bit-blockOf, blockOf-bits, ⊕-bits, bit-cells, cells-same, blockOf-cells}
+use Rattle.blocks.proofs.ByBits.{isBlock, bit-blockOf, ⊕-bits, bit-cells, cells-same, blockOf-cells}
 use Rattle.baksheesh.specs.Baksheesh.{constants, taps, tapped, constant}
 use Rattle.packed.specs.Packed.{unpacked}
 
@@ -33,20 +32,6 @@ pub words : (a b c d : ℕ) (h : ℕ → ℕ → Bool)
 unfolding unpacked
 words a b c d h p q r s =
     cells-same _ h (λ i j l k. four (λ j. bit (getD (a ∷ b ∷ c ∷ d ∷ []) j 0) i ≡ h i j) (p i l) (q i l) (r i l) (s i l) j k)
-
--- the words of a block
-abbrev word : List ℕ → ℕ → ℕ
-word b j = number 32 (λ c. bitAt b (4 * c + j))
-
-unfoldable pub packed : List ℕ → List ℕ
-packed b = word b 0 ∷ word b 1 ∷ word b 2 ∷ word b 3 ∷ []
-
-pub unpacked-packed : (b : List ℕ) → Block b → unpacked (packed b) ≡ b
-unfolding packed
-unpacked-packed b w =
-    words _ _ _ _ _ (bit-number 32 _) (bit-number 32 _) (bit-number 32 _) (bit-number 32 _)
-    ∙ sym (blockOf-cells (bitAt b))
-    ∙ blockOf-bits b w
 
 -- ---- steps
 

@@ -1,5 +1,4 @@
 pub mod Sealed
-pub mod Crypting
 pub mod Tagging
 pub mod Fields
 pub mod Answers

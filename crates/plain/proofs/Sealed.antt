@@ -18,7 +18,7 @@ module _ {ke km : List ℕ} (p : Block ke) (q : Block km) (n s : ℕ) where
   outputs j = encrypt-block ke _ p (counter-block n s j)
 
   pub crypted-length : (m : List ℕ) → length (crypted ke n s m) ≡ length m
-  crypted-length = ctr-length (encrypt ke) (counterBlock n s) outputs
+  crypted-length m = ctr-length (encrypt ke) (counterBlock n s) m (λ j h. outputs j .size)
 
   pub crypted-bytes : (m : List ℕ) → Bytes m → Bytes (crypted ke n s m)
   crypted-bytes = ctr-bytes (encrypt ke) (counterBlock n s) outputs

@@ -6,12 +6,11 @@ use Prim.Native.Nat.{ℕ, zero, suc, _+_, _^_, _≤_, _<_}
 use native.Mathlib.Omega.{arith}
 use lib.Dec.{eqb}
 use lib.ListN.{length, getD, take, drop, length-append, length-drop, take-append-drop}
-use lib.Seq.{take-at, drop-at, take-all, drop-drop, length-take-le}
+use lib.Seq.{take-at, drop-at, take-all, drop-drop}
 use borrow.Author.Tests.{eq-eqb, ne-eqb}
 use Rattle.blocks.specs.Bytes.{Bytes}
 use Rattle.blocks.specs.Number.{bigEndian, value}
 use Rattle.blocks.specs.Put.{part, put}
-use Rattle.blocks.proofs.Xor.{bytes-take, bytes-drop}
 use Rattle.blocks.proofs.Numbers.{bigEndian-says, bigEndian-part}
 use Rattle.blocks.proofs.Parts.{put-put, put-three}
 use Rattle.links.specs.Record.{numberSize, sequenceSize}

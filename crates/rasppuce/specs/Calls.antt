@@ -5,7 +5,7 @@ use Prim.Native.Nat.{ℕ, _+_}
 use lib.Dec.{eqb, ltb}
 use lib.ListN.{length}
 use Rattle.blocks.specs.Number.{bigEndian}
-use Rattle.answers.specs.Answer.{Answer, done, refused, _when_, first, ifDone, output}
+use Rattle.answers.specs.Answer.{Answer, done, _when_, first, ifDone, output}
 use Rattle.links.specs.Links.{senderKeys, senderOf}
 use Rattle.opening.specs.Receivers.{receiverKeys, receiverOf}
 use Rattle.opening.specs.Open.{openAnswer, openLink}

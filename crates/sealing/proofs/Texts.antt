@@ -3,16 +3,15 @@ use mathlib.Core.Path.{_≡_, refl, sym, ap, ap₂, _∙_}
 use mathlib.Core.Bool.{Bool, cond}
 use mathlib.Core.List.{List, [], _∷_, _++_}
 use Prim.Native.Nat.{ℕ, zero, suc, _+_, _-_, _*_, _%_, _≤_}
-use native.Mathlib.Nat.{zero-add}
 use native.Mathlib.Omega.{arith}
 use lib.Dec.{eqb}
-use lib.ListN.{length, take, drop, getD, replicate, length-replicate, replicate-append-replicate}
-use lib.Seq.{take-take, drop-drop, drop-at}
+use lib.ListN.{length, take, drop, replicate, length-drop}
+use lib.Seq.{length-take-le, take-take, drop-drop}
 use borrow.Author.Tests.{eq-eqb, ne-eqb}
 use Rattle.blocks.specs.Bytes.{_⊕_, zeros}
-use Rattle.blocks.specs.Put.{part, put, tab}
+use Rattle.blocks.specs.Put.{part, put}
 use Rattle.blocks.proofs.Xor.{⊕-zero}
-use Rattle.blocks.proofs.Parts.{tab-length, tab-part, put-start, fill-done}
+use Rattle.blocks.proofs.Parts.{put-zeros}
 use Rattle.packed.specs.Packed.{unpacked}
 use Rattle.packed.proofs.Words.{unpacked-block}
 use Rattle.modes.specs.Pieces.{piece}
@@ -27,17 +26,14 @@ use Rattle.sealing.specs.Walk.{lastKey, textBlock, blockShares}
 
 -- ---- parts
 
--- the first n bytes of a block, written into zeros
-pub cut-written : (b block : List ℕ) (i n : ℕ) → block ≡ put 0 (tab i (λ k. getD b k 0)) (replicate 16 0) → i ≡ n → n ≤ 16 → length b ≡ 16 → block ≡ cut n b
-cut-written b block i n e d h l =
-    let f : ℕ → ℕ = λ k. getD b k 0 in
-    let z : n + (16 - n) ≡ 16 = omega arith in
-    fill-done 0 i n f _ _ e d
-    ∙ put-start (tab n f) (replicate 16 0)
-    ∙ ap₂ _++_ (ap (tab n) (λ q k. getD b (sym (zero-add k) q) 0) ∙ tab-part n 0 b (omega arith))
-    (ap (λ (k : ℕ). drop {A = ℕ} k (replicate 16 0)) (tab-length n f)
-    ∙ ap (drop n) (ap (λ (k : ℕ). replicate k 0) (sym z) ∙ sym (replicate-append-replicate n (16 - n) 0))
-    ∙ drop-at (replicate n 0) (replicate (16 - n) 0) n (length-replicate n 0))
+-- the first n bytes of a block, written over zeros
+pub cut-written : (at n : ℕ) (s : List ℕ) → at + 16 ≤ length s → n ≤ 16 → put 0 (part at (at + n - at) s) (replicate 16 0) ≡ cut n (part at 16 s)
+cut-written at n s l h =
+    let e : at + n - at ≡ n = omega arith in
+    let k : length (part at n s) ≡ n = length-take-le n (drop at s) (omega (arith, length-drop at s)) in
+    ap (λ (i : ℕ). put 0 (part at i s) (replicate 16 0)) e
+    ∙ put-zeros (part at n s) 16 (omega arith)
+    ∙ ap₂ (λ (b : List ℕ) (i : ℕ). b ++ replicate (16 - i) 0) (sym (take-take n 16 (drop at s) h)) k
 
 part-take : (p n k : ℕ) (l : List ℕ) → p + n ≤ k → part p n (take k l) ≡ part p n l
 part-take zero n k l h = take-take n k l (omega arith)

@@ -5,7 +5,7 @@ use mathlib.Core.List.{List, [], _++_}
 use Prim.Native.Nat.{ℕ, zero, suc, _+_, _-_, _*_, _%_, _≤_, _<_}
 use lib.Dec.{eqb}
 use lib.ListN.{length}
-use Rattle.blocks.specs.Put.{part, put}
+use Rattle.blocks.specs.Put.{part}
 use Rattle.baksheesh.specs.Baksheesh.{rounds}
 use Rattle.modes.specs.Pieces.{blockCount, piece}
 use Rattle.modes.specs.Ctr as Ctr
@@ -93,9 +93,12 @@ blockShares x m o (suc j) = textBlock m j (sharesIn (part (48 * j) 48 o))
 
 -- ---- what leaves the shares
 
--- the message under CTR with the output shares o, joined
-abbrev pub keyStream : List ℕ → List ℕ → List ℕ
-keyStream m o = Ctr.ctr (λ b. b) (λ j. join (sharesIn (part (48 * j) 48 o))) m
+-- the joined output of CTR's call for block j, of the output shares o; the message under CTR with such output blocks
+abbrev pub joinedAt : List ℕ → ℕ → List ℕ
+joinedAt o j = join (sharesIn (part (48 * j) 48 o))
+
+abbrev pub ciphertextOf : List ℕ → List ℕ → List ℕ
+ciphertextOf m o = Ctr.ctr (λ b. b) (joinedAt o) m
 
 -- lane i of what a round shows
 abbrev pub laneIn : Seen → Index → List ℕ

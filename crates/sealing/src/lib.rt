@@ -24,7 +24,7 @@ ghost use Rattle.calls.specs.Calls.{callCount, tapeNeed};
 ghost use Rattle.calls.specs.Sealed.{cut, completed, chain, tagShares};
 ghost use Rattle.calls.specs.Entry.{sealAnswer, sealLink, sealShares, sealOutput, reportAnswer, hasLane, reportOutput, indexOf};
 ghost use Rattle.sealing.specs.Says.{sealSays, reportSays};
-ghost use Rattle.sealing.specs.Walk.{looked, Stepped, Walked, Ready, outsSize, outputs, outsHold, lastKey, textBlock, blockShares, keyStream, laneIn};
+ghost use Rattle.sealing.specs.Walk.{looked, Stepped, Walked, Ready, outsSize, outputs, outsHold, lastKey, textBlock, blockShares, ciphertextOf, laneIn};
 
 // ---- one call
 
@@ -167,17 +167,13 @@ fn last_key(s: Triple, len: usize) -> Triple
     double_shares(first)
 }
 
-// The first n bytes of a block, zeros behind them.
-fn cut_block(b: [u8; 16], n: usize) -> [u8; 16]
-    requires { ⌜ n ≤ 16 ⌝ }
-    ensures { λ r. ⌜ r ≡ cut n b ⌝ }
+// The first n bytes of the block from `at`, zeros behind them.
+fn cut_block(s: &[u8], at: usize, n: usize) -> [u8; 16]
+    requires { ⌜ (at + 16 ≤ length (now s)) × (n ≤ 16) ⌝ }
+    ensures { λ r. ⌜ r ≡ cut n (part at 16 (now (s .entry))) ⌝ }
 {
     let mut block = [0u8; 16];
-    let mut i = 0;
-    while i < n {
-        block[i] = b[i];
-        i += 1;
-    }
+    blocks::put_bytes(&s[at..at + n], &mut block, 0);
     block
 }
 
@@ -200,9 +196,9 @@ fn text_block(message: &[u8], outs: &[u8], j: usize) -> Triple
 {
     let n = modes::width(message.len(), 16 * j);
     let at = 48 * j;
-    let a = cut_block(blocks::block_at(outs, at), n);
-    let b = cut_block(blocks::block_at(outs, at + 16), n);
-    let c = cut_block(blocks::block_at(outs, at + 32), n);
+    let a = cut_block(outs, at, n);
+    let b = cut_block(outs, at + 16, n);
+    let c = cut_block(outs, at + 32, n);
     Triple {
         a: add(pack(a), pack(completed_at(message, j))),
         b: pack(b),
@@ -316,7 +312,7 @@ fn joined(b: [u8; 48]) -> [u8; 16]
 // Writes the ciphertext from `at`: the message XORed with the joined outputs of CTR's calls.
 fn put_ciphertext(message: &[u8], outs: &[u8], out: &mut [u8], at: usize)
     requires { ⌜ (length (now message) ≤ longest) × (length (now outs) ≡ outsSize) × (at + length (now message) ≤ length (now out)) ⌝ }
-    ensures { λ _. ⌜ now (out .exit) ≡ put at (keyStream (now (message .entry)) (now (outs .entry))) (now (out .entry)) ⌝ }
+    ensures { λ _. ⌜ now (out .exit) ≡ put at (ciphertextOf (now (message .entry)) (now (outs .entry))) (now (out .entry)) ⌝ }
 {
     let count = (message.len() + 15) / 16;
     let mut j = 0;
@@ -337,7 +333,7 @@ fn put_record(
     out: &mut [u8],
 )
     requires { ⌜ (length (now message) ≤ longest) × (length (now outs) ≡ outsSize) × (recordSize (length (now message)) ≤ length (now out)) ⌝ }
-    ensures { λ _. ⌜ now (out .exit) ≡ put 0 (recordOf number sequence (keyStream (now (message .entry)) (now (outs .entry))) (join (sharesIn shares))) (now (out .entry)) ⌝ }
+    ensures { λ _. ⌜ now (out .exit) ≡ put 0 (recordOf number sequence (ciphertextOf (now (message .entry)) (now (outs .entry))) (join (sharesIn shares))) (now (out .entry)) ⌝ }
 {
     blocks::put_number(out, 0, number);
     blocks::put_number(out, 4, sequence);

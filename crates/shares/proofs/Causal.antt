@@ -5,7 +5,7 @@ use native.Mathlib.Omega.{arith}
 use Rattle.baksheesh.specs.Baksheesh.{rounds, rotated}
 use Rattle.shares.specs.Shares.{Shares, add, each, spread}
 use Rattle.shares.specs.Tape.{Reader, pairSize, callSize, masksAt}
-use Rattle.shares.specs.Call.{shareRound, state, call, masked}
+use Rattle.shares.specs.Call.{shareRound, state, call}
 
 -- two tapes agree below o
 abbrev pub Agree : Reader → Reader → ℕ → Type 0
@@ -25,7 +25,3 @@ module _ (M N : Reader) where
 
     pub call-agree : Agree M N (o + callSize) → call key input M o ≡ call key′ input′ N o
     call-agree h = state-agree rounds h
-
-    pub masked-agree : (n : ℕ) → Agree M N (o + pairSize * n + pairSize) → masked key input M o n ≡ masked key′ input′ N o n
-    unfolding masked
-    masked-agree n h = ap₂ add (state-agree n (λ p k. h p (omega arith))) (masksAt-agree (o + pairSize * n) h)

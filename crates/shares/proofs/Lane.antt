@@ -5,11 +5,10 @@ use Prim.Native.Nat.{ℕ, suc, _+_, _-_, _*_}
 use native.Mathlib.Omega.{arith}
 use lib.ListN.{length, take, length-append}
 use lib.Seq.{take-at, drop-at, take-all}
-use Rattle.blocks.specs.Bytes.{Block, Bytes, _⊕_}
+use Rattle.blocks.specs.Bytes.{Block, _⊕_}
 use Rattle.blocks.specs.Put.{part}
-use Rattle.blocks.proofs.Xor.{bytes-append}
 use Rattle.baksheesh.specs.Baksheesh.{rounds, rotated, after}
-use Rattle.shares.specs.Shares.{Index, i₀, i₁, i₂, next, isFirst, Shares, Blocks, three, join, sharesIn}
+use Rattle.shares.specs.Shares.{Index, i₀, i₁, i₂, next, isFirst, Shares, Blocks, join}
 use Rattle.shares.specs.Tape.{Reader, pairSize, callSize}
 use Rattle.shares.specs.Call.{laneRound, state, call, masked, roundKey, lane}
 use Rattle.shares.specs.OneTape.{roundOnLane}
@@ -32,14 +31,6 @@ module _ {a b c : List ℕ} (p : Block a) (q : Block b) (r : Block c) where
   pub parts-length : length (a ++ (b ++ c)) ≡ 48
   parts-length = simp length-append (omega (arith, p .size, q .size, r .size))
 
-  pub parts-bytes : Bytes (a ++ (b ++ c))
-  parts-bytes = bytes-append a (b ++ c) (p .bytes) (bytes-append b c (q .bytes) (r .bytes))
-
-  pub sharesIn-parts : (i : Index) → sharesIn (a ++ (b ++ c)) i ≡ three a b c i
-  sharesIn-parts i₀ = first-part
-  sharesIn-parts i₁ = second-part
-  sharesIn-parts i₂ = third-part
-
 -- ---- the lanes of round n + 1 of a call
 
 module _ {key input : Shares} (M : Reader) (o n : ℕ) (p : Blocks key) (q : Blocks input) (h : Reads M (o + pairSize * n + pairSize)) where
@@ -52,10 +43,6 @@ module _ {key input : Shares} (M : Reader) (o n : ℕ) (p : Blocks key) (q : Blo
   pub lane-length : (i : Index) → length (lane key input M o n i) ≡ 48
   unfolding lane
   lane-length i = parts-length (m-blocks _) (m-blocks _) (k-blocks _)
-
-  pub lane-bytes : (i : Index) → Bytes (lane key input M o n i)
-  unfolding lane
-  lane-bytes i = parts-bytes (m-blocks _) (m-blocks _) (k-blocks _)
 
   pub lane-first : (i : Index) → part 0 16 (lane key input M o n i) ≡ masked key input M o n (next i)
   unfolding lane

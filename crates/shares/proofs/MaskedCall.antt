@@ -49,11 +49,6 @@ module _ {a o : ℕ} (low : a + pairSize ≤ o) where
         state-agree M N o (ap (add (C .given)) (masksAt-agree M N a (λ p k. h p (omega arith)))) (C .input-causal M N (λ p k. h p (omega arith))) n h;
   }
 
-  pub lane-shows : (C : MaskedCall a o) (n : ℕ) (M : Reader) (i : Index)
-      → laneAt C n M i ≡ shows (probe C n) (rotated (suc n)) M i
-  unfolding lane masked roundKey shows met keyed probe
-  lane-shows C n M i = refl
-
   -- exactly one tape shows with D the lane that was seen with C
   pub one-tape : (C D : MaskedCall a o) (n : ℕ) (t : List ℕ) → Bytes t → o + pairSize * n + pairSize ≤ length t → (i : Index)
       → ExactlyOne (Shows (laneMask a i) (o + pairSize * n) t (laneAt C n (at t) i) (λ w. laneAt D n (at w) i))

@@ -1,5 +1,5 @@
 -- Rounds on packed shares, one after the other, and their place in a call. Assumes nothing.
-use mathlib.Core.Path.{_≡_, refl, sym, ap, ap₂, _∙_, fun-ext}
+use mathlib.Core.Path.{_≡_, refl, sym, ap, _∙_, fun-ext}
 use mathlib.Core.List.{List}
 use Prim.Native.Nat.{ℕ, zero, suc, _+_, _-_, _*_, _≤_}
 use native.Mathlib.Nat.{add-suc}
@@ -9,7 +9,7 @@ use Rattle.baksheesh.proofs.Steps.{rotated-zero, rotated-suc}
 use Rattle.packed.proofs.Words.{unpacked-block}
 use Rattle.blocks.proofs.ByBits.{rearranged-twice}
 use Rattle.shares.specs.declared.Triple.{Triple}
-use Rattle.shares.specs.Shares.{Index, i₀, i₁, i₂, Shares, Blocks, add, each, spread}
+use Rattle.shares.specs.Shares.{i₀, i₁, i₂, Shares, Blocks, add, each, spread}
 use Rattle.shares.specs.Tape.{Reader, pairSize, masksAt}
 use Rattle.shares.specs.Call.{shareRound, state, call, masked, roundKey}
 use Rattle.shares.specs.Packed.{sharesOf, onward, met}

@@ -15,7 +15,7 @@ use Rattle.blocks.proofs.ByBits.{cells-same, rearranged-block}
 use Rattle.baksheesh.specs.Baksheesh.{from, permBits, constant}
 use Rattle.packed.specs.Packed.{unpacked}
 use Rattle.packed.proofs.Words.{bit-unpacked, ones}
-use Rattle.shares.specs.Shares.{Index, i₀, i₁, i₂, Shares, three}
+use Rattle.shares.specs.Shares.{Index, i₀, i₁, i₂, Shares}
 use Rattle.shares.specs.Sbox.{shareBit, sboxShare}
 use Rattle.shares.specs.Call.{laneRound}
 

@@ -32,9 +32,6 @@ spread-blocks p q = three-blocks p q (⊕-block p q)
 pub only-blocks : {b : List ℕ} → Block b → Blocks (only b)
 only-blocks p = three-blocks p zeros-block zeros-block
 
-pub each-blocks : {f : List ℕ → List ℕ} → ((b : List ℕ) → Block b → Block (f b)) → {s : Shares} → Blocks s → Blocks (each f s)
-each-blocks h {s} p i = h (s i) (p i)
-
 pub join-block : {s : Shares} → Blocks s → Block (join s)
 unfolding join
 join-block p = ⊕-block (p i₀) (⊕-block (p i₁) (p i₂))

@@ -1,6 +1,5 @@
 -- `blocks_long` meets its contract. Assumes nothing.
 use borrow.Author.Tests.{eq-eqb, ne-eqb}
-use borrow.Author.Needs.{needs}
 use Rattle.engines.proofs.blocks_long.Statement.{statement}
 use Rattle.engines.proofs.blocks_long.Tie as tie
 

@@ -1,31 +1,34 @@
 -- `put_ciphertext` meets its contract. The loop has written the first j blocks. Assumes nothing.
 use mathlib.Core.Path.{_≡_, ap, _∙_}
 use mathlib.Core.List.{List}
-use Prim.Native.Nat.{ℕ, _+_, _-_, _*_, _≤_}
+use Prim.Native.Nat.{ℕ, _+_, _-_, _*_, _≤_, _<_}
 use native.Mathlib.Omega.{arith}
 use lib.ListN.{length}
 use borrow.Author.Needs.{needs}
 use Rattle.blocks.specs.Bytes.{_⊕_}
 use Rattle.blocks.specs.Put.{put}
-use Rattle.modes.specs.Pieces.{piece}
+use Rattle.modes.specs.Pieces.{blockCount, piece}
 use Rattle.modes.proofs.Pieces.{piece-length}
+use Rattle.modes.proofs.Stream.{written, written-none, written-length, written-more, written-all}
 use Rattle.shares.specs.Shares.{join, sharesIn}
-use Rattle.sealing.proofs.Stream.{written, written-none, written-all, written-length, written-more, joinedAt, joined-sized}
+use Rattle.sealing.specs.Walk.{joinedAt}
+use Rattle.sealing.proofs.Stream.{joined-sized}
 use Rattle.sealing.proofs.put_ciphertext.Statement.{statement}
 use Rattle.sealing.proofs.put_ciphertext.Tie as tie
 
 abbrev Inv-loop : tie.InvT-loop
-Inv-loop message outs out₀ at count j₀ out j = (j ≤ count) × (out ≡ written (joinedAt outs) message at out₀ j)
+Inv-loop message outs out₀ at count j₀ out j = (j ≤ count) × (out ≡ written (λ b. b) (joinedAt outs) message at out₀ j)
 
 abbrev μ-loop : tie.MeasureT-loop
 μ-loop message outs out₀ at count j₀ out j = count - j
 
+-- each output block is a whole one
+sized : (c : tie.At-loop Inv-loop μ-loop)
+    → let a = c .before .before .before .before .args in (j : ℕ) → j < blockCount (length (a .message .now)) → length (joinedAt (a .outs .now) j) ≡ 16
+sized c = let a = c .before .before .before .before .args in joined-sized (a .message .now) (a .outs .now) (omega arith) (omega arith)
+
 kept : (c : tie.At-loop Inv-loop μ-loop) → length (c .loop .out) ≡ length (c .before .before .before .before .args .out .now)
-kept c =
-    let a = c .before .before .before .before .args in
-    ap length (c .loop .inv .1)
-    ∙ written-length (joinedAt (a .outs .now)) (a .message .now) (joined-sized (a .message .now) (a .outs .now) (omega arith) (omega arith)) (a .at) (a .out .now) (omega arith) (c .loop .j)
-    (omega arith)
+kept c = ap length (c .loop .inv .1) ∙ written-length (λ b. b) _ _ _ _ (sized c) (omega arith) (c .loop .j) (omega arith)
 
 put-xor-requires : tie.Need-put-xor-requires Inv-loop μ-loop
 put-xor-requires c κs =
@@ -41,14 +44,14 @@ loop-again c =
       search needs,
       c .before .before .put-xor .ensures
           ∙ (λ i. put (a .at + 16 * l .loop .j) (piece (l .loop .j) (a .message .now) ⊕ key i) (l .loop .inv .1 i))
-          ∙ written-more (joinedAt (a .outs .now)) (a .message .now) (joined-sized (a .message .now) (a .outs .now) (omega arith) (omega arith)) (a .at) (a .out .now) (omega arith) (l .loop .j) (omega arith),
+          ∙ written-more (λ b. b) _ _ _ _ (sized l) (omega arith) (l .loop .j) (omega arith),
     )
 
 returns : tie.Need-returns Inv-loop μ-loop
-returns c = c .before .loop .inv .1 ∙ written-all _ _ _ _ _ (omega arith)
+returns c = c .before .loop .inv .1 ∙ written-all (λ b. b) _ _ _ _ _ (omega arith)
 
 pub put-ciphertext-spec : {M : Type 1} → statement M
 put-ciphertext-spec =
     tie.close
-    (tie.spec Inv-loop μ-loop (λ c. search needs) (λ c. (search needs, written-none _ _ _ _)) (λ c. omega arith) (λ c κs. omega arith) (λ c κs. search needs)
+    (tie.spec Inv-loop μ-loop (λ c. search needs) (λ c. (search needs, written-none (λ b. b) _ _ _ _)) (λ c. omega arith) (λ c κs. omega arith) (λ c κs. search needs)
     (λ c. omega arith) (λ c. omega arith) put-xor-requires (λ c. search needs) (λ c. search needs) loop-again (λ c. kept (c .before)) returns)

@@ -6,8 +6,8 @@ use lib.ListN.{length}
 use borrow.Author.Needs.{needs}
 use Rattle.blocks.specs.Put.{put}
 use Rattle.plain.proofs.Fields.{record-put}
-use Rattle.sealing.specs.Walk.{keyStream}
-use Rattle.sealing.proofs.Stream.{keyStream-length}
+use Rattle.sealing.specs.Walk.{ciphertextOf}
+use Rattle.sealing.proofs.Stream.{ciphertext-length}
 use Rattle.sealing.proofs.put_record.Statement.{statement}
 use Rattle.sealing.proofs.put_record.Tie as tie
 
@@ -18,12 +18,12 @@ returns c =
     let numbered = filled .before .before .before .before in
     let first = numbered .before .before .before .before in
     let a = first .before .before .before .before .before .args in
-    let l = keyStream-length (a .message .now) (a .outs .now) (omega arith) (omega arith) in
+    let l = ciphertext-length (a .message .now) (a .outs .now) (omega arith) (omega arith) in
     let end : ℕ = length (a .message .now) + 8 in
     let written = filled .put-ciphertext .ensures ∙ ap (put 8 _) (numbered .put-number2 .ensures ∙ ap (put 4 _) (first .put-number .ensures)) in
     c .before .before .put-bytes .ensures
     ∙ (λ i. put end (tagged .joined .ensures i) (written i))
-    ∙ record-put (a .number) (a .sequence) (keyStream (a .message .now) (a .outs .now)) (a .out .now) (omega arith) _ end (omega arith)
+    ∙ record-put (a .number) (a .sequence) (ciphertextOf (a .message .now) (a .outs .now)) (a .out .now) (omega arith) _ end (omega arith)
 
 pub put-record-spec : {M : Type 1} → statement M
 put-record-spec =

@@ -1,13 +1,10 @@
 -- `unpack_shares` meets its contract: three blocks written one behind the other. Assumes nothing.
-use mathlib.Core.Path.{sym, ap, _∙_}
-use mathlib.Core.List.{List, _++_}
-use Prim.Native.Nat.{ℕ}
+use mathlib.Core.Path.{sym, _∙_}
 use native.Mathlib.Omega.{arith}
 use lib.ListN.{replicate}
 use borrow.Author.Needs.{needs}
 use Rattle.blocks.specs.Put.{put}
 use Rattle.blocks.proofs.Parts.{put-three}
-use Rattle.packed.specs.Packed.{unpacked}
 use Rattle.packed.proofs.Words.{unpacked-block}
 use Rattle.shares.proofs.unpack_shares.Statement.{statement}
 use Rattle.shares.proofs.unpack_shares.Tie as tie

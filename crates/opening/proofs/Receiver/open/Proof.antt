@@ -1,5 +1,5 @@
 -- `open` meets its contract: each return by the law of the tests that led there. Assumes nothing.
-use mathlib.Core.Path.{refl, sym, _∙_}
+use mathlib.Core.Path.{refl}
 use native.Mathlib.Omega.{arith}
 use borrow.Author.Needs.{needs}
 use Rattle.opening.proofs.Answers.{not-keyed, too-short, too-long, other-link, short-output, old-number, wrong-tag, opened}
