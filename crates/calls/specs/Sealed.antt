@@ -23,6 +23,14 @@ cut w b = take w b ++ replicate (16 - w) 0
 abbrev pub completed : List ℕ → List ℕ
 completed p = cond (eqb (length p) 16) p (padded p)
 
+-- of CMAC's L, the last block's subkey for a message of n bytes: doubled once where that block is complete, else twice
+abbrev pub lastKey : ℕ → List ℕ → List ℕ
+lastKey n l = cond (eqb (n % 16) 0) (doubled l) (doubled (doubled l))
+
+-- block j of the ciphertext, in the output shares s of its call, with the message block and its padding in share 0
+abbrev pub textBlock : List ℕ → ℕ → Shares → Shares
+textBlock m j s = add (each (cut (length (piece j m))) s) (only (completed (piece j m)))
+
 -- the sealing of the message m on the link x with what is read of a tape
 module _ (x : Sender) (m : List ℕ) (M : Reader) where
   abbrev pub count : ℕ
@@ -45,15 +53,14 @@ module _ (x : Sender) (m : List ℕ) (M : Reader) where
   unfoldable pub ctrOut : ℕ → Shares
   ctrOut j = run (ctr j) (only (counter j))
 
-  -- CMAC's subkey for the last block, doubled share by share: once where that block is complete, else twice
+  -- the last block's subkey, made share by share
   unfoldable pub subkey : Shares
-  subkey = each (λ l. cond (eqb (length m % 16) 0) (doubled l) (doubled (doubled l))) (run sub (λ i. zeros))
+  subkey = each (lastKey (length m)) (run sub (λ i. zeros))
 
-  -- block j of what is authenticated: counter block 0; then the ciphertext, in the output shares of its call, with the
-  -- message block and its padding in share 0
+  -- block j of what is authenticated: counter block 0, then the ciphertext
   unfoldable pub macBlock : ℕ → Shares
   macBlock zero = only (counter 0)
-  macBlock (suc j) = add (each (cut (length (piece j m))) (ctrOut j)) (only (completed (piece j m)))
+  macBlock (suc j) = textBlock m j (ctrOut j)
 
   -- the chain before block j, from three zero shares, and the input of CMAC's call for block j
   unfoldable pub chain : ℕ → Shares

@@ -3,7 +3,7 @@ use mathlib.Core.Path.{_≡_, refl, sym, ap, ap₂, _∙_}
 use mathlib.Core.List.{List, _++_}
 use Prim.Native.Nat.{ℕ, _+_, _-_, _^_, _≤_, _<_}
 use native.Mathlib.Omega.{arith}
-use lib.ListN.{length, take, drop, length-append, length-replicate, take-append-drop, replicate}
+use lib.ListN.{length, take, drop, length-append, take-append-drop, replicate}
 use lib.Seq.{take-at, drop-at, drop-drop}
 use Rattle.blocks.specs.Bytes.{Bytes, Block}
 use Rattle.blocks.specs.Number.{bigEndian, value}
@@ -15,7 +15,7 @@ use Rattle.links.specs.Record.{numberSize, sequenceSize, tagSize, headSi
 pub counter-block : (n s i : ℕ) → Block (counterBlock n s i)
 unfolding counterBlock
 counter-block n s i = record {
-  size = simp (length-append, bigEndian-length, length-replicate);
+  size = simp (length-append, bigEndian-length);
   bytes =
       bytes-append (bigEndian numberSize n) (replicate 4 0 ++ (bigEndian sequenceSize s ++ bigEndian 4 i)) (bigEndian-bytes numberSize n)
       (bytes-append (replicate 4 0) (bigEndian sequenceSize s ++ bigEndian 4 i) (bytes-replicate 4)

@@ -27,13 +27,13 @@ use Rattle.calls.specs.Calls.{callCount, tapeNeed}
 use Rattle.calls.specs.Sealed.{ctrOut, tagShares, ciphertext, sealedRecord}
 use Rattle.calls.specs.Entry.{inputCauses, sealAnswer, advanced, sealLink, sealShares, sealOutput}
 use Rattle.sealing.specs.Says.{sealSays}
-use Rattle.sealing.specs.Walk.{Walked, outsHold, joinedAt, ciphertextOf}
+use Rattle.sealing.specs.Walk.{Walked, OutsHold, joinedAt, ciphertextOf}
 use Rattle.calls.proofs.Accepted.{Sealable, accepted}
 use Rattle.sealing.proofs.Refusals as Refusals
 use Rattle.sealing.proofs.Walking.{shares-flat, ctrOut-made}
 
 -- the record written is the sealing's
-record-made : (x : Sender) (m t outs s : List ℕ) (w : Walk) → outsHold x m (at t) outs → sharesOf (w .out) ≡ tagShares x m (at t) → s ≡ flat (sharesOf (w .out))
+record-made : (x : Sender) (m t outs s : List ℕ) (w : Walk) → OutsHold x m (at t) outs → sharesOf (w .out) ≡ tagShares x m (at t) → s ≡ flat (sharesOf (w .out))
     → recordOf (x .number) (x .last + 1) (ciphertextOf m outs) (join (sharesIn s)) ≡ sealedRecord x m (at t)
 unfolding sealedRecord ciphertext
 record-made x m t outs s w H tag e =
@@ -95,7 +95,7 @@ module _ (x : Sender) (m t o : List ℕ) where
 
   pub sealed : Sealable x m t → recordSize (length m) ≤ length o
       → (a : Watch) (w : Walk) (outs s p : List ℕ) → Walked x m (at t) a (callCount (blockCount (length m))) w
-      → sharesOf (w .out) ≡ tagShares x m (at t) → outsHold x m (at t) outs → s ≡ flat (sharesOf (w .out))
+      → sharesOf (w .out) ≡ tagShares x m (at t) → OutsHold x m (at t) outs → s ≡ flat (sharesOf (w .out))
       → p ≡ put 0 (recordOf (x .number) (x .last + 1) (ciphertextOf m outs) (join (sharesIn s))) o
       → Leaves (done (recordSize (length m) ∷ w .used ∷ [])) (advanced x) s p
   sealed S room a w outs s p W tag H es ep =

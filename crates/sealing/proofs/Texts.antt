@@ -16,13 +16,14 @@ use Rattle.packed.specs.Packed.{unpacked}
 use Rattle.packed.proofs.Words.{unpacked-block}
 use Rattle.modes.specs.Pieces.{piece}
 use Rattle.modes.specs.Cmac.{doubled}
+use Rattle.links.specs.Record.{counterBlock}
 use Rattle.links.specs.declared.Sender.{Sender}
 use Rattle.shares.specs.declared.Triple.{Triple}
 use Rattle.shares.specs.Shares.{Shares, each, only, sharesIn}
 use Rattle.shares.specs.Packed.{sharesOf}
 use Rattle.shares.proofs.Packed.{shares-same}
-use Rattle.calls.specs.Sealed.{cut, completed, counter}
-use Rattle.sealing.specs.Walk.{lastKey, textBlock, blockShares}
+use Rattle.calls.specs.Sealed.{cut, completed, lastKey, textBlock}
+use Rattle.sealing.specs.Walk.{blockShares}
 
 -- ---- parts
 
@@ -75,7 +76,7 @@ text-shares m o j n t a b c d en ed ea eb ec ta tb tc =
 
 -- block j of what is authenticated: the first, and another
 module _ (x : Sender) (m o : List ℕ) (j : ℕ) (s : Shares) where
-  pub mac-first : j ≡ 0 → s ≡ only (counter x m (λ p. []) 0) → s ≡ blockShares x m o j
+  pub mac-first : j ≡ 0 → s ≡ only (counterBlock (x .number) (x .last + 1) 0) → s ≡ blockShares x m o j
   mac-first e h = h ∙ ap (blockShares x m o) (sym e)
 
   pub mac-next : (j ≡ 0 → ⊥) → s ≡ textBlock m (j - 1) (sharesIn (part (48 * (j - 1)) 48 o)) → s ≡ blockShares x m o j

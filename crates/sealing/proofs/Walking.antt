@@ -29,8 +29,8 @@ use Rattle.sealing.specs.declared.Watch.{Watch}
 use Rattle.sealing.specs.declared.Seen.{Seen}
 use Rattle.sealing.specs.declared.Walk.{Walk}
 use Rattle.calls.specs.Calls.{Call, ctr, sub, mac, numberOf, callOf, callCount, ofKey, keyAt, callAt}
-use Rattle.calls.specs.Sealed.{counter, keyShares, run, ctrOut, subkey, macBlock, chain, inputOf, tagShares}
-use Rattle.sealing.specs.Walk.{looked, Shown, Stepped, Walked, Ready, outsSize, outputs, outsHold, lastKey, textBlock, blockShares}
+use Rattle.calls.specs.Sealed.{lastKey, textBlock, counter, keyShares, run, ctrOut, subkey, macBlock, chain, inputOf, tagShares}
+use Rattle.sealing.specs.Walk.{looked, Shown, Stepped, Walked, Ready, outsSize, outputs, OutsHold, blockShares}
 
 -- ---- what one call shows
 
@@ -162,7 +162,7 @@ module _ (x : Sender) (m : List ℕ) (M : Reader) where
         | no e ↦ outputs-part k j (v ++ rest) (omega arith)
       ]
 
-  pub outs-hold : (o out : List ℕ) → out ≡ put 0 (outputs x m M n) o → length o ≡ outsSize → length m ≤ longest → outsHold x m M out
+  pub outs-hold : (o out : List ℕ) → out ≡ put 0 (outputs x m M n) o → length o ≡ outsSize → length m ≤ longest → OutsHold x m M out
   outs-hold o out e s h = record {
     size = outputs-size n o out e (omega arith) ∙ s;
     hold = λ j l. ap (part (48 * j) 48) (e ∙ put-start (outputs x m M n) o) ∙ outputs-part n j _ l;
@@ -170,7 +170,7 @@ module _ (x : Sender) (m : List ℕ) (M : Reader) where
 
   -- ---- CMAC's calls
 
-  pub block-held : (j : ℕ) {o : List ℕ} → outsHold x m M o → j ≤ n → blockShares x m o j ≡ macBlock x m M j
+  pub block-held : (j : ℕ) {o : List ℕ} → OutsHold x m M o → j ≤ n → blockShares x m o j ≡ macBlock x m M j
   unfolding macBlock
   block-held zero H l = refl
   block-held (suc j) H l =

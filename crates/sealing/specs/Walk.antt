@@ -1,19 +1,17 @@
 -- The path through the calls of a sealing, as the code takes it. Assumes nothing.
 use mathlib.Core.Path.{_≡_}
-use mathlib.Core.Bool.{Bool, true, false, cond}
+use mathlib.Core.Bool.{Bool, true, false}
 use mathlib.Core.List.{List, [], _++_}
-use Prim.Native.Nat.{ℕ, zero, suc, _+_, _-_, _*_, _%_, _≤_, _<_}
-use lib.Dec.{eqb}
+use Prim.Native.Nat.{ℕ, zero, suc, _+_, _-_, _*_, _≤_, _<_}
 use lib.ListN.{length}
 use Rattle.blocks.specs.Put.{part}
 use Rattle.baksheesh.specs.Baksheesh.{rounds}
-use Rattle.modes.specs.Pieces.{blockCount, piece}
+use Rattle.modes.specs.Pieces.{blockCount}
 use Rattle.modes.specs.Ctr as Ctr
-use Rattle.modes.specs.Cmac.{doubled}
-use Rattle.links.specs.Record.{longest}
+use Rattle.links.specs.Record.{longest, counterBlock}
 use Rattle.links.specs.declared.Sender.{Sender}
 use Rattle.shares.specs.declared.Triple.{Triple}
-use Rattle.shares.specs.Shares.{Index, next, Shares, join, add, each, only, sharesIn, flat}
+use Rattle.shares.specs.Shares.{Index, next, Shares, join, only, sharesIn, flat}
 use Rattle.shares.specs.Tape.{Reader, callSize}
 use Rattle.shares.specs.Call.{call, masked, roundKey}
 use Rattle.shares.specs.Packed.{sharesOf}
@@ -21,7 +19,7 @@ use Rattle.sealing.specs.declared.Watch.{Watch}
 use Rattle.sealing.specs.declared.Seen.{Seen}
 use Rattle.sealing.specs.declared.Walk.{Walk}
 use Rattle.calls.specs.Calls.{callOf, callAt, tapeNeed}
-use Rattle.calls.specs.Sealed.{cut, completed, counter, keyShares, ctrOut, inputOf}
+use Rattle.calls.specs.Sealed.{textBlock, keyShares, ctrOut, inputOf}
 
 -- ---- one call
 
@@ -72,23 +70,15 @@ outputs x m M zero = []
 outputs x m M (suc n) = outputs x m M n ++ flat (ctrOut x m M n)
 
 -- all of them stand in o
-pub record outsHold (x : Sender) (m : List ℕ) (M : Reader) (o : List ℕ) : Type 0 where
+pub record OutsHold (x : Sender) (m : List ℕ) (M : Reader) (o : List ℕ) : Type 0 where
   pub size : length o ≡ outsSize
   pub hold : (j : ℕ) → j < blockCount (length m) → part (48 * j) 48 o ≡ flat (ctrOut x m M j)
 
 -- ---- CMAC's blocks
 
--- the last block's subkey of CMAC's L, for a message of n bytes
-abbrev pub lastKey : ℕ → List ℕ → List ℕ
-lastKey n l = cond (eqb (n % 16) 0) (doubled l) (doubled (doubled l))
-
--- block j of the ciphertext, s being its call's output shares
-abbrev pub textBlock : List ℕ → ℕ → Shares → Shares
-textBlock m j s = add (each (cut (length (piece j m))) s) (only (completed (piece j m)))
-
 -- block j of what is authenticated, with the output shares o
 abbrev pub blockShares : Sender → List ℕ → List ℕ → ℕ → Shares
-blockShares x m o zero = only (counter x m (λ p. []) 0)
+blockShares x m o zero = only (counterBlock (x .number) (x .last + 1) 0)
 blockShares x m o (suc j) = textBlock m j (sharesIn (part (48 * j) 48 o))
 
 -- ---- what leaves the shares

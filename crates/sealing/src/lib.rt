@@ -21,10 +21,10 @@ ghost use Rattle.shares.specs.Shares.{join, each, sharesIn, add as addShares};
 ghost use Rattle.shares.specs.Tape.{at, pairSize, callSize, masksAt};
 ghost use Rattle.shares.specs.Packed.{sharesOf};
 ghost use Rattle.calls.specs.Calls.{callCount, tapeNeed};
-ghost use Rattle.calls.specs.Sealed.{cut, completed, chain, tagShares};
+ghost use Rattle.calls.specs.Sealed.{cut, completed, lastKey, textBlock, chain, tagShares};
 ghost use Rattle.calls.specs.Entry.{sealAnswer, sealLink, sealShares, sealOutput, reportAnswer, hasLane, reportOutput, indexOf};
 ghost use Rattle.sealing.specs.Says.{sealSays, reportSays};
-ghost use Rattle.sealing.specs.Walk.{looked, Stepped, Walked, Ready, outsSize, outputs, outsHold, lastKey, textBlock, blockShares, ciphertextOf, laneIn};
+ghost use Rattle.sealing.specs.Walk.{looked, Stepped, Walked, Ready, outsSize, outputs, OutsHold, blockShares, ciphertextOf, laneIn};
 
 // ---- one call
 
@@ -230,7 +230,7 @@ fn chain_calls(
     requires { ⌜ Ready link (now message) (now tape) watch ⌝ }
     requires { ⌜ sharesOf key ≡ addShares (sharesIn (link .km)) (masksAt (at (now tape)) pairSize) ⌝ }
     requires { ⌜ Walked link (now message) (at (now tape)) watch (blockCount (length (now message)) + 1) start ⌝ }
-    requires { ⌜ outsHold link (now message) (at (now tape)) (now outs) ⌝ }
+    requires { ⌜ OutsHold link (now message) (at (now tape)) (now outs) ⌝ }
     ensures { λ r. ⌜ Walked link (now (message .entry)) (at (now (tape .entry))) watch (2 * blockCount (length (now (message .entry))) + 1) r ⌝ }
     ensures { λ r. ⌜ sharesOf (r .out) ≡ chain link (now (message .entry)) (at (now (tape .entry))) (blockCount (length (now (message .entry)))) ⌝ }
 {
@@ -261,7 +261,7 @@ fn run(link: Sender, message: &[u8], tape: &[u8], watch: Watch, outs: &mut [u8])
     requires { ⌜ length (now outs) ≡ outsSize ⌝ }
     ensures { λ r. ⌜ Walked link (now (message .entry)) (at (now (tape .entry))) watch (callCount (blockCount (length (now (message .entry))))) r ⌝ }
     ensures { λ r. ⌜ sharesOf (r .out) ≡ tagShares link (now (message .entry)) (at (now (tape .entry))) ⌝ }
-    ensures { λ r. ⌜ outsHold link (now (message .entry)) (at (now (tape .entry))) (now (outs .exit)) ⌝ }
+    ensures { λ r. ⌜ OutsHold link (now (message .entry)) (at (now (tape .entry))) (now (outs .exit)) ⌝ }
 {
     let given_e = link.ke;
     let given_m = link.km;

@@ -10,7 +10,7 @@ use Rattle.shares.specs.Tape.{at, pairSize, masksAt}
 use Rattle.shares.specs.Packed.{sharesOf}
 use Rattle.calls.specs.Calls.{sub, mac, callCount}
 use Rattle.calls.specs.Sealed.{run, inputOf}
-use Rattle.sealing.specs.Walk.{Walked, outsHold}
+use Rattle.sealing.specs.Walk.{Walked, OutsHold}
 use Rattle.calls.proofs.Calls.{call-sub, call-mac}
 use Rattle.sealing.proofs.Walking.{walked-none, walked-at, walked-ready, step-more, key-given, sub-in, outs-hold, block-held, subkey-made, last-in, tag-made}
 use Rattle.sealing.proofs.run.Statement.{statement}
@@ -31,7 +31,7 @@ masked c =
     c .mask-key2 .ensures .0 ∙ ap (λ (p : ℕ). add (sharesIn (a .link .km)) (masksAt (at (a .tape .now)) p)) (c .before .mask-key .ensures .1)
 
 held : (c : tie.After-ctr-calls) → let a = c .before .before .before .before .before .before .before .before .before .before .before .before .args in
-    outsHold (a .link) (a .message .now) (at (a .tape .now)) (c .ctr-calls .last .1 .1 .1 .1 .1 .1 .0)
+    OutsHold (a .link) (a .message .now) (at (a .tape .now)) (c .ctr-calls .last .1 .1 .1 .1 .1 .1 .0)
 held c =
     let s = c .before .before .before .before .before .before .before .before .before .before .before .before in
     outs-hold _ _ _ (s .args .outs .now) _ (c .ctr-calls .ensures .1) (s .pre .1) (s .pre .0 .short)
