@@ -10,7 +10,7 @@ use Rattle.baksheesh.specs.Baksheesh.{rounds}
 use Rattle.modes.specs.Pieces.{blockCount}
 use Rattle.answers.specs.Answer.{Cause, done, NoneOf}
 use Rattle.answers.proofs.First.{done-none, none-done}
-use Rattle.links.specs.Record.{longest, recordSize}
+use Rattle.links.specs.Record.{greatest, longest, recordSize}
 use Rattle.links.specs.declared.Sender.{Sender}
 use Rattle.plain.specs.Entry.{plainKeys, plainCauses, plainAnswer}
 use Rattle.calls.specs.Calls.{callCount, tapeNeed}
@@ -24,20 +24,20 @@ a also b = (a, b)
 -- what sealing and the report ask alike
 pub record Sealable (x : Sender) (m t : List ℕ) : Type 0 where
   pub keyed : x .keyed ≡ true
-  pub left : x .last ≡ 4294967295 → ⊥
+  pub left : x .last ≡ greatest → ⊥
   pub small : length m ≤ longest
   pub long : tapeNeed (length m) ≤ length t
 
 module _ (x : Sender) (m t : List ℕ) where
   sealable-none : (cs : List Cause) → Sealable x m t → NoneOf cs → NoneOf (inputCauses x m t cs)
   sealable-none cs S h =
-      ap not (S .keyed) also ne-eqb (x .last) 4294967295 (S .left) also le-ltb longest (length m) (S .small)
+      ap not (S .keyed) also ne-eqb (x .last) greatest (S .left) also le-ltb longest (length m) (S .small)
       also le-ltb (length t) (tapeNeed (length m)) (S .long) also h
 
   none-sealable : (cs : List Cause) → NoneOf (inputCauses x m t cs) → Sealable x m t
   none-sealable cs h = record {
     keyed = not-false (x .keyed) (h .0);
-    left = eqb-false (x .last) 4294967295 (h .1 .0);
+    left = eqb-false (x .last) greatest (h .1 .0);
     small = ltb-false longest (length m) (h .1 .1 .0);
     long = ltb-false (length t) (tapeNeed (length m)) (h .1 .1 .1 .0);
   }

@@ -15,7 +15,7 @@ use Rattle.baksheesh.specs.Baksheesh.{rounds}
 use Rattle.answers.specs.Answer.{done, refused, FirstOf}
 use Rattle.answers.proofs.First.{if-done, if-refused, first-refused, refused-first}
 use Rattle.modes.specs.Pieces.{blockCount}
-use Rattle.links.specs.Record.{numberSize, longest, recordSize}
+use Rattle.links.specs.Record.{numberSize, sequenceSize, greatest, longest, recordSize}
 use Rattle.links.specs.Links.{senderKeys, senderOf}
 use Rattle.links.specs.declared.Sender.{Sender}
 use Rattle.plain.specs.Plain.{plainRecord}
@@ -104,7 +104,7 @@ causal x m t u k r k₁ e =
 -- ---- they speak of something
 
 -- a keyed link with a number left seals each message of at most 256 bytes, with a tape and an output that are just long enough
-pub accepted-exists : (x : Sender) (m : List ℕ) → x .keyed ≡ true → x .last < 4294967295 → length m ≤ longest
+pub accepted-exists : (x : Sender) (m : List ℕ) → x .keyed ≡ true → x .last < greatest → length m ≤ longest
     → Accepted x m (replicate (tapeNeed (length m)) 0) (recordSize (length m))
 accepted-exists x m keyed left small =
     accepted x m (replicate (tapeNeed (length m)) 0) (recordSize (length m))
@@ -124,7 +124,7 @@ keyed-formed n keys h e b = record {
 pub advanced-formed : (x : Sender) (m t : List ℕ) (o : ℕ) → Formed x → Accepted x m t o → Formed (advanced x)
 advanced-formed x m t o F A =
     let fits = F .last in
-    let small : x .last + 1 < 4294967296 = elim (decLt (x .last) 4294967295) [ yes l ↦ omega arith | no l ↦ absurd (sealable x m t o A .left (omega arith)) ] in
+    let small : x .last + 1 < 256 ^ sequenceSize = elim (decLt (x .last) greatest) [ yes l ↦ omega arith | no l ↦ absurd (sealable x m t o A .left (omega arith)) ] in
     record { number = F .number; last = small; ke-size = F .ke-size; ke-bytes = F .ke-bytes; km-size = F .km-size; km-bytes = F .km-bytes }
 
 -- one such link, and the empty message accepted on it

@@ -8,7 +8,7 @@ use lib.ListN.{length, replicate}
 use Rattle.answers.specs.Answer.{Answer, done, Cause, _when_, first, ifDone, output}
 use Rattle.baksheesh.specs.Baksheesh.{rounds}
 use Rattle.modes.specs.Pieces.{blockCount}
-use Rattle.links.specs.Record.{longest, recordSize}
+use Rattle.links.specs.Record.{greatest, longest, recordSize}
 use Rattle.links.specs.declared.Sender.{Sender}
 use Rattle.shares.specs.Shares.{Index, i₀, i₁, i₂, flat}
 use Rattle.shares.specs.Tape.{at}
@@ -21,7 +21,7 @@ use Rattle.calls.specs.Sealed.{tagShares, sealedRecord, laneOf}
 abbrev pub inputCauses : Sender → List ℕ → List ℕ → List Cause → List Cause
 inputCauses x m t cs =
     (20 when not (x .keyed))
-    ∷ (21 when eqb (x .last) 4294967295)
+    ∷ (21 when eqb (x .last) greatest)
     ∷ (2 when ltb longest (length m))
     ∷ (3 when ltb (length t) (tapeNeed (length m)))
     ∷ cs

@@ -1,6 +1,6 @@
 -- The layout of a record and of a counter block. Assumes nothing.
 use mathlib.Core.List.{List, _++_}
-use Prim.Native.Nat.{ℕ, _+_, _-_}
+use Prim.Native.Nat.{ℕ, _+_, _-_, _^_}
 use lib.ListN.{length, drop, replicate}
 use Rattle.blocks.specs.Number.{bigEndian, value}
 use Rattle.blocks.specs.Put.{part}
@@ -26,6 +26,10 @@ headSize = numberSize + sequenceSize
 
 abbrev pub recordSize : ℕ → ℕ
 recordSize m = m + (headSize + tagSize)
+
+-- the greatest sequence number
+abbrev pub greatest : ℕ
+greatest = 256 ^ sequenceSize - 1
 
 -- ---- layouts
 

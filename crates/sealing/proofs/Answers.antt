@@ -12,7 +12,7 @@ use Rattle.answers.specs.Answer.{Answer, done, refused, Cause, _when_, first}
 use Rattle.answers.proofs.First.{if-done, if-refused}
 use Rattle.modes.specs.Pieces.{blockCount}
 use Rattle.modes.proofs.Ctr.{ctr-same}
-use Rattle.links.specs.Record.{longest, recordSize, recordOf}
+use Rattle.links.specs.Record.{greatest, longest, recordSize, recordOf}
 use Rattle.links.specs.declared.Sender.{Sender}
 use Rattle.shares.specs.Shares.{join, sharesIn, flat}
 use Rattle.shares.specs.Tape.{at}
@@ -77,10 +77,10 @@ module _ (x : Sender) (m t o : List ℕ) where
     not-keyed R h = refuses Seal.NotKeyed 20 refl R (Refusals.not-keyed x m t last full h)
 
     module _ (keyed : not (x .keyed) ≡ false) where
-      pub numbers-used : Is Seal.NumbersUsed → x .last ≡ 4294967295 → Refused
+      pub numbers-used : Is Seal.NumbersUsed → x .last ≡ greatest → Refused
       numbers-used R h = refuses Seal.NumbersUsed 21 refl R (Refusals.numbers-used x m t last full keyed h)
 
-      module _ (left : x .last ≡ 4294967295 → ⊥) where
+      module _ (left : x .last ≡ greatest → ⊥) where
         pub long-message : Is Seal.LongMessage → longest < length m → Refused
         long-message R h = refuses Seal.LongMessage 2 refl R (Refusals.long-message x m t last full keyed left h)
 

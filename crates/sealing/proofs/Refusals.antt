@@ -6,7 +6,7 @@ use Prim.Native.Nat.{ℕ, _≤_, _<_}
 use lib.ListN.{length}
 use borrow.Author.Tests.{not-false, eq-eqb, ne-eqb, lt-ltb, le-ltb}
 use Rattle.answers.specs.Answer.{Answer, refused, Cause, first}
-use Rattle.links.specs.Record.{longest}
+use Rattle.links.specs.Record.{greatest, longest}
 use Rattle.links.specs.declared.Sender.{Sender}
 use Rattle.calls.specs.Calls.{tapeNeed}
 use Rattle.calls.specs.Entry.{inputCauses}
@@ -22,10 +22,10 @@ module _ (x : Sender) (m t : List ℕ) where
     not-keyed h = simp h
 
     module _ (keyed : not (x .keyed) ≡ false) where
-      pub numbers-used : x .last ≡ 4294967295 → says cs a ≡ refused 21
+      pub numbers-used : x .last ≡ greatest → says cs a ≡ refused 21
       numbers-used h = simp (keyed, eq-eqb _ _ h)
 
-      module _ (left : x .last ≡ 4294967295 → ⊥) where
+      module _ (left : x .last ≡ greatest → ⊥) where
         pub long-message : longest < length m → says cs a ≡ refused 2
         long-message h = simp (keyed, ne-eqb _ _ left, lt-ltb _ _ h)
 
@@ -36,5 +36,5 @@ module _ (x : Sender) (m t : List ℕ) where
     pub passed : Sealable x m t → says cs a ≡ first cs a
     passed S = simp (ap not (S .keyed), ne-eqb _ _ (S .left), le-ltb _ _ (S .small), le-ltb _ _ (S .long))
 
-  pub sealable : not (x .keyed) ≡ false → (x .last ≡ 4294967295 → ⊥) → length m ≤ longest → tapeNeed (length m) ≤ length t → Sealable x m t
+  pub sealable : not (x .keyed) ≡ false → (x .last ≡ greatest → ⊥) → length m ≤ longest → tapeNeed (length m) ≤ length t → Sealable x m t
   sealable keyed left small long = record { keyed = not-false (x .keyed) keyed; left = left; small = small; long = long }

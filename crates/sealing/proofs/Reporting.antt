@@ -12,7 +12,7 @@ use Rattle.answers.specs.Answer.{Answer, done, refused, Cause, _when_, first}
 use Rattle.answers.proofs.First.{if-done, if-refused}
 use Rattle.baksheesh.specs.Baksheesh.{rounds}
 use Rattle.modes.specs.Pieces.{blockCount}
-use Rattle.links.specs.Record.{longest}
+use Rattle.links.specs.Record.{greatest, longest}
 use Rattle.links.specs.declared.Sender.{Sender}
 use Rattle.shares.specs.Shares.{next}
 use Rattle.shares.specs.Tape.{at}
@@ -102,10 +102,10 @@ module _ (x : Sender) (m t : List ℕ) (k r i : ℕ) (o : List ℕ) where
   not-keyed h = refuses 20 (Refusals.not-keyed x m t last (done []) h)
 
   module _ (keyed : not (x .keyed) ≡ false) where
-    pub numbers-used : x .last ≡ 4294967295 → Leaves (refused 21) o
+    pub numbers-used : x .last ≡ greatest → Leaves (refused 21) o
     numbers-used h = refuses 21 (Refusals.numbers-used x m t last (done []) keyed h)
 
-    module _ (left : x .last ≡ 4294967295 → ⊥) where
+    module _ (left : x .last ≡ greatest → ⊥) where
       pub long-message : longest < length m → Leaves (refused 2) o
       long-message h = refuses 2 (Refusals.long-message x m t last (done []) keyed left h)
 

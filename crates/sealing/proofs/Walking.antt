@@ -65,7 +65,7 @@ zero-shares = shares-same zero-words refl refl
 
 -- the next call can be done
 pub walked-ready : (x : Sender) (m t : List ℕ) (a : Watch) (k : ℕ) (w : Walk) → Ready x m t a → Walked x m (at t) a k w → k < callCount (blockCount (length m))
-    → (1 ≤ a .round) × (a .round ≤ rounds) × (w .used + callSize ≤ length t) × (w .calls < callCount 16)
+    → (1 ≤ a .round) × (a .round ≤ rounds) × (w .used + callSize ≤ length t) × (w .calls < callCount (blockCount longest))
 walked-ready x m t a k w R W h =
     (R .low, R .high, omega (arith, W .used, R .long), omega (arith, W .calls, R .short))
 

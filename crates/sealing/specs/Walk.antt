@@ -8,7 +8,7 @@ use Rattle.blocks.specs.Put.{part}
 use Rattle.baksheesh.specs.Baksheesh.{rounds}
 use Rattle.modes.specs.Pieces.{blockCount}
 use Rattle.modes.specs.Ctr as Ctr
-use Rattle.links.specs.Record.{longest, counterBlock}
+use Rattle.links.specs.Record.{greatest, longest, counterBlock}
 use Rattle.links.specs.declared.Sender.{Sender}
 use Rattle.shares.specs.declared.Triple.{Triple}
 use Rattle.shares.specs.Shares.{Index, next, Shares, join, only, sharesIn, flat}
@@ -45,7 +45,7 @@ pub record Stepped (k x : Shares) (M : Reader) (a : Watch) (w r : Walk) : Type 0
 
 -- the work can be done: a number is left, the message is short enough, the tape long enough, the round is one
 pub record Ready (x : Sender) (m t : List ℕ) (a : Watch) : Type 0 where
-  pub left : x .last < 4294967295
+  pub left : x .last < greatest
   pub short : length m ≤ longest
   pub long : tapeNeed (length m) ≤ length t
   pub low : 1 ≤ a .round
@@ -62,7 +62,7 @@ pub record Walked (x : Sender) (m : List ℕ) (M : Reader) (a : Watch) (k : ℕ)
 
 -- room for those of the longest message
 abbrev pub outsSize : ℕ
-outsSize = 768
+outsSize = 48 * blockCount longest
 
 -- those of the first n calls, one behind the other
 unfoldable pub outputs : Sender → List ℕ → Reader → ℕ → List ℕ

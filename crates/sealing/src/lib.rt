@@ -16,7 +16,7 @@ ghost use Rattle.baksheesh.specs.Baksheesh.{rounds};
 ghost use Rattle.packed.specs.Packed.{unpacked};
 ghost use Rattle.modes.specs.Pieces.{blockCount, piece};
 ghost use Rattle.modes.specs.Cmac.{doubled};
-ghost use Rattle.links.specs.Record.{longest, recordSize, recordOf};
+ghost use Rattle.links.specs.Record.{greatest, longest, recordSize, recordOf};
 ghost use Rattle.shares.specs.Shares.{join, each, sharesIn, add as addShares};
 ghost use Rattle.shares.specs.Tape.{at, pairSize, callSize, masksAt};
 ghost use Rattle.shares.specs.Packed.{sharesOf};
@@ -61,7 +61,7 @@ fn look(here: bool, state: Triple, key: Triple, old: Seen) -> Seen
 
 // The next call.
 fn step(w: Walk, key: Triple, input: Triple, tape: &[u8], watch: Watch) -> Walk
-    requires { ⌜ (1 ≤ watch .round) × (watch .round ≤ rounds) × (w .used + callSize ≤ length (now tape)) × (w .calls < callCount 16) ⌝ }
+    requires { ⌜ (1 ≤ watch .round) × (watch .round ≤ rounds) × (w .used + callSize ≤ length (now tape)) × (w .calls < callCount (blockCount longest)) ⌝ }
     ensures { λ r. ⌜ Stepped (sharesOf key) (sharesOf input) (at (now (tape .entry))) watch w r ⌝ }
 {
     let round = watch.round;
@@ -208,7 +208,7 @@ fn text_block(message: &[u8], outs: &[u8], j: usize) -> Triple
 
 // Block j of what is authenticated: counter block 0, then the ciphertext.
 fn mac_block(link: Sender, message: &[u8], outs: &[u8], j: usize) -> Triple
-    requires { ⌜ (link .last < 4294967295) × (j ≤ blockCount (length (now message))) × (length (now message) ≤ longest) × (length (now outs) ≡ outsSize) ⌝ }
+    requires { ⌜ (link .last < greatest) × (j ≤ blockCount (length (now message))) × (length (now message) ≤ longest) × (length (now outs) ≡ outsSize) ⌝ }
     ensures { λ r. ⌜ sharesOf r ≡ blockShares link (now (message .entry)) (now (outs .entry)) j ⌝ }
 {
     if j == 0 {
