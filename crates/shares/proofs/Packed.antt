@@ -5,8 +5,9 @@ use mathlib.Core.List.{List, [], _∷_}
 use Prim.Native.Nat.{ℕ, _+_, _*_, _<_}
 use native.Mathlib.Omega.{arith}
 use lib.ListN.{getD}
+use lib.Bits.{bitXor, bitAnd}
 use Rattle.bits.specs.Bit.{bit}
-use Rattle.bits.proofs.Laws.{bit-zero}
+use Rattle.bits.proofs.Laws.{bit-zero, bit-xor, bit-and}
 use Rattle.bits.proofs.Test.{four}
 use Rattle.blocks.specs.Bytes.{_⊕_, zeros}
 use Rattle.blocks.specs.Bits.{bitAt, blockOf, cells}
@@ -14,7 +15,7 @@ use Rattle.blocks.proofs.Xor.{⊕-zero}
 use Rattle.blocks.proofs.ByBits.{cells-same, rearranged-block}
 use Rattle.baksheesh.specs.Baksheesh.{from, permBits, constant}
 use Rattle.packed.specs.Packed.{unpacked}
-use Rattle.packed.proofs.Words.{bit-unpacked, ones}
+use Rattle.packed.proofs.Words.{bit-unpacked, words, ones}
 use Rattle.shares.specs.Shares.{Index, i₀, i₁, i₂, Shares}
 use Rattle.shares.specs.Sbox.{shareBit, sboxShare}
 use Rattle.shares.specs.Call.{laneRound}
@@ -23,7 +24,7 @@ pub ones-if : (one : Bool) (i : ℕ) → i < 32 → bit (cond one 0xffff_ffff 0)
 ones-if true i h = ones i h
 ones-if false i h = bit-zero i
 
-pub packed-share : (first : Bool) (a b : List ℕ)
+packed-share : (first : Bool) (a b : List ℕ)
     → sboxShare first (unpacked a) (unpacked b) ≡ cells (λ c j. shareBit first j (λ e. bit (getD a e 0) c) (λ e. bit (getD b e 0) c))
 unfolding sboxShare
 packed-share first a b =
@@ -38,6 +39,23 @@ packed-share first a b =
     let b₂ = x b 2 (omega arith) in
     four (λ j. shareBit first j (λ e. bitAt (unpacked a) (4 * c + e)) (λ e. bitAt (unpacked b) (4 * c + e)) ≡ shareBit first j (λ e. bit (getD a e 0) c) (λ e. bit (getD b e 0) c))
     (simp (a₀, a₁, a₂, a₃, b₀, b₂)) (simp (a₀, a₁, a₂, a₃, b₁, b₂)) (simp (a₀, a₁, a₂, a₃, b₀, b₁, b₂)) (simp (a₀, a₁, a₂, a₃, b₀, b₁, b₂)) j l
+
+-- by words: each product as three, and for 1 a word of it
+abbrev product : List ℕ → List ℕ → ℕ → ℕ → ℕ
+product a b e f = bitXor (bitXor (bitAnd (getD a e 0) (getD a f 0)) (bitAnd (getD a e 0) (getD b f 0))) (bitAnd (getD b e 0) (getD a f 0))
+
+pub share-words : (first : Bool) (one : ℕ) → ((i : ℕ) → i < 32 → bit one i ≡ first) → (a b : List ℕ)
+    → unpacked (
+    bitXor (bitXor (bitXor (bitXor (product a b 0 2) (getD a 0 0)) (getD a 1 0)) (getD a 3 0)) one
+    ∷ bitXor (bitXor (bitXor (getD a 0 0) (product a b 1 2)) (getD a 3 0)) one
+    ∷ bitXor (bitXor (bitXor (product a b 0 2) (product a b 1 2)) (getD a 1 0)) (getD a 3 0)
+    ∷ bitXor (bitXor (bitXor (product a b 0 1) (product a b 0 2)) (getD a 2 0)) (getD a 3 0)
+    ∷ []
+    ) ≡ sboxShare first (unpacked a) (unpacked b)
+share-words first one e a b =
+    words _ _ _ _ _
+    (λ i h. simp (bit-xor, bit-and, e i h)) (λ i h. simp (bit-xor, bit-and, e i h)) (λ i h. simp (bit-xor, bit-and)) (λ i h. simp (bit-xor, bit-and))
+    ∙ sym (packed-share first a b)
 
 -- a round of a lane by its steps, for the first share and for another
 module _ (n : ℕ) (f : Bool) (a b k s r : List ℕ) (moved : s ≡ permBits (sboxShare f a b)) where

@@ -1,11 +1,9 @@
 -- `sbox_share` meets its contract: each word is the bit form's, with three products for each. Assumes nothing.
-use mathlib.Core.Path.{_≡_, sym, ap, _∙_}
+use mathlib.Core.Path.{_≡_, ap, _∙_}
 use Prim.Native.Nat.{ℕ, _<_}
 use borrow.Author.Needs.{needs}
 use Rattle.bits.specs.Bit.{bit}
-use Rattle.bits.proofs.Laws.{bit-xor, bit-and}
-use Rattle.packed.proofs.Words.{words}
-use Rattle.shares.proofs.Packed.{ones-if, packed-share}
+use Rattle.shares.proofs.Packed.{ones-if, share-words}
 use Rattle.shares.proofs.sbox_share.Statement.{statement}
 use Rattle.shares.proofs.sbox_share.Tie as tie
 
@@ -14,10 +12,7 @@ one : (c : tie.After-ones-if) (i : ℕ) → i < 32 → bit (c .ones-if .result) 
 one c i h = ap (λ (x : ℕ). bit x i) (c .ones-if .ensures) ∙ ones-if (c .before .args .first) i h
 
 returns : tie.Need-returns
-returns c =
-    words _ _ _ _ _
-    (λ i h. simp (bit-xor, bit-and, one c i h)) (λ i h. simp (bit-xor, bit-and, one c i h)) (λ i h. simp (bit-xor, bit-and)) (λ i h. simp (bit-xor, bit-and))
-    ∙ sym (packed-share _ _ _)
+returns c = share-words _ _ (one c) _ _
 
 pub sbox-share-spec : {M : Type 1} → statement M
 sbox-share-spec =
