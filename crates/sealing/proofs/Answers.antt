@@ -21,16 +21,17 @@ use Rattle.shares.proofs.Onward.{packed-blocks}
 use Rattle.sealing.specs.declared.SealAnswer.{SealAnswer}
 use Rattle.sealing.specs.declared.SealAnswer.the-variants as Seal
 use Rattle.sealing.specs.declared.Sealing.{Sealing}
-use Rattle.sealing.specs.declared.Watch.{Watch}
-use Rattle.sealing.specs.declared.Walk.{Walk}
+use Rattle.path.specs.declared.Watch.{Watch}
+use Rattle.path.specs.declared.Walk.{Walk}
 use Rattle.calls.specs.Calls.{callCount, tapeNeed}
 use Rattle.calls.specs.Sealed.{ctrOut, tagShares, ciphertext, sealedRecord}
 use Rattle.calls.specs.Entry.{inputCauses, sealAnswer, advanced, sealLink, sealShares, sealOutput}
 use Rattle.sealing.specs.Says.{sealSays}
-use Rattle.sealing.specs.Walk.{Walked, OutsHold, joinedAt, ciphertextOf}
+use Rattle.path.specs.Walk.{Walked, OutsHold}
+use Rattle.sealing.specs.Outgoing.{joinedAt, ciphertextOf}
 use Rattle.calls.proofs.Accepted.{Sealable, accepted}
 use Rattle.sealing.proofs.Refusals as Refusals
-use Rattle.sealing.proofs.Walking.{shares-flat, ctrOut-made}
+use Rattle.path.proofs.Walking.{shares-flat, ctrOut-made}
 
 -- the record written is the sealing's
 record-made : (x : Sender) (m t outs s : List ℕ) (w : Walk) → OutsHold x m (at t) outs → sharesOf (w .out) ≡ tagShares x m (at t) → s ≡ flat (sharesOf (w .out))

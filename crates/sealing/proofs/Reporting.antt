@@ -17,12 +17,13 @@ use Rattle.links.specs.declared.Sender.{Sender}
 use Rattle.shares.specs.Shares.{next}
 use Rattle.shares.specs.Tape.{at}
 use Rattle.shares.specs.Call.{lane}
-use Rattle.sealing.specs.declared.Watch.{Watch}
-use Rattle.sealing.specs.declared.Walk.{Walk}
+use Rattle.path.specs.declared.Watch.{Watch}
+use Rattle.path.specs.declared.Walk.{Walk}
 use Rattle.calls.specs.Calls.{callCount, tapeNeed}
 use Rattle.calls.specs.Sealed.{laneOf}
 use Rattle.calls.specs.Entry.{inputCauses, laneSize, hasLane, reportAnswer, indexOf, reportOutput}
-use Rattle.sealing.specs.Walk.{Walked, laneIn}
+use Rattle.path.specs.Walk.{Walked}
+use Rattle.sealing.specs.Outgoing.{laneIn}
 use Rattle.calls.proofs.Accepted.{Sealable, reported}
 use Rattle.sealing.proofs.Refusals as Refusals
 

@@ -11,7 +11,8 @@ use Rattle.modes.specs.Pieces.{blockCount}
 use Rattle.modes.proofs.Ctr.{ctr-length}
 use Rattle.links.specs.Record.{longest}
 use Rattle.shares.specs.Shares.{join}
-use Rattle.sealing.specs.Walk.{outsSize, joinedAt, ciphertextOf}
+use Rattle.path.specs.Walk.{outsSize}
+use Rattle.sealing.specs.Outgoing.{joinedAt, ciphertextOf}
 
 module _ (m o : List ℕ) (short : length m ≤ longest) (size : length o ≡ outsSize) where
   pub joined-sized : (j : ℕ) → j < blockCount (length m) → length (joinedAt o j) ≡ 16

@@ -4,9 +4,9 @@ use mathlib.Core.List.{List}
 use Prim.Native.Nat.{ℕ}
 use native.Mathlib.Omega.{arith}
 use borrow.Author.Needs.{needs}
-use Rattle.sealing.specs.declared.Seen.{Seen}
+use Rattle.path.specs.declared.Seen.{Seen}
 use Rattle.calls.specs.Entry.{indexOf}
-use Rattle.sealing.specs.Walk.{laneIn}
+use Rattle.sealing.specs.Outgoing.{laneIn}
 use Rattle.sealing.proofs.lane_of.Statement.{statement}
 use Rattle.sealing.proofs.lane_of.Tie as tie
 

@@ -11,7 +11,7 @@ use Rattle.modes.specs.Pieces.{blockCount, piece}
 use Rattle.modes.proofs.Pieces.{piece-length}
 use Rattle.modes.proofs.Stream.{written, written-none, written-length, written-more, written-all}
 use Rattle.shares.specs.Shares.{join, sharesIn}
-use Rattle.sealing.specs.Walk.{joinedAt}
+use Rattle.sealing.specs.Outgoing.{joinedAt}
 use Rattle.sealing.proofs.Stream.{joined-sized}
 use Rattle.sealing.proofs.put_ciphertext.Statement.{statement}
 use Rattle.sealing.proofs.put_ciphertext.Tie as tie

@@ -6,7 +6,7 @@ use lib.ListN.{length}
 use borrow.Author.Needs.{needs}
 use Rattle.blocks.specs.Put.{put}
 use Rattle.plain.proofs.Fields.{record-put}
-use Rattle.sealing.specs.Walk.{ciphertextOf}
+use Rattle.sealing.specs.Outgoing.{ciphertextOf}
 use Rattle.sealing.proofs.Stream.{ciphertext-length}
 use Rattle.sealing.proofs.put_record.Statement.{statement}
 use Rattle.sealing.proofs.put_record.Tie as tie
