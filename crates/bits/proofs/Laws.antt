@@ -1,6 +1,6 @@
 -- What xor, and, shifts and cuts do to a bit; numbers are equal when their bits are. Assumes nothing.
 use mathlib.Core.Path.{_≡_, refl, sym, ap, ap₂, _∙_}
-use mathlib.Core.Bool.{Bool, true, false, not, _&&_}
+use mathlib.Core.Bool.{Bool, true, false, not, _&&_, and-comm}
 use Prim.Native.Nat.{ℕ, zero, suc, _+_, _-_, _*_, _/_, _%_, _^_, _<_}
 use native.Mathlib.Nat.{lt-of-lt-of-le, mod-lt, zero-lt-suc, le-of-suc-le-suc, not-suc-le-zero, div-eq-of-lt, div-add-mod', mul-assoc, pow-suc, div-one}
 use native.Mathlib.Omega.{arith}
@@ -146,6 +146,22 @@ pub ⊻-assoc : (a b c : Bool) → (a ⊻ b ⊻ c) ≡ (a ⊻ (b ⊻ c))
 ⊻-assoc true false c = refl
 ⊻-assoc true true false = refl
 ⊻-assoc true true true = refl
+
+pub ⊻-comm : (a b : Bool) → (a ⊻ b) ≡ (b ⊻ a)
+⊻-comm true true = refl
+⊻-comm true false = refl
+⊻-comm false true = refl
+⊻-comm false false = refl
+
+pub ⊻-left-comm : (a b c : Bool) → (a ⊻ (b ⊻ c)) ≡ (b ⊻ (a ⊻ c))
+⊻-left-comm a b c = sym (⊻-assoc a b c) ∙ ap (λ (z : Bool). z ⊻ c) (⊻-comm a b) ∙ ⊻-assoc b a c
+
+pub and-⊻ : (a b c : Bool) → (a && (b ⊻ c)) ≡ ((a && b) ⊻ (a && c))
+and-⊻ true b c = refl
+and-⊻ false b c = refl
+
+pub ⊻-and : (a b c : Bool) → ((a ⊻ b) && c) ≡ ((a && c) ⊻ (b && c))
+⊻-and a b c = and-comm (a ⊻ b) c ∙ and-⊻ c a b ∙ ap₂ _⊻_ (and-comm c a) (and-comm c b)
 
 pub xor-assoc : (a b c : ℕ) → bitXor (bitXor a b) c ≡ bitXor a (bitXor b c)
 xor-assoc a b c = bits-same _ _ (λ i. simp bit-xor (⊻-assoc (bit a i) (bit b i) (bit c i)))

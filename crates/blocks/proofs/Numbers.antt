@@ -1,17 +1,15 @@
 -- A number and its bytes say each other, at any width. Assumes nothing.
-use mathlib.Core.Path.{_≡_, refl, sym, ap, ap₂, _∙_}
+use mathlib.Core.Path.{_≡_, refl, sym, ap, ap₂, _∙_, subst}
 use mathlib.Core.List.{List, [], _∷_}
 use Prim.Native.Nat.{ℕ, zero, suc, _+_, _*_, _/_, _%_, _^_, _≤_, _<_}
 use native.Mathlib.Nat.{mod-eq-of-lt, pow-succ', mul-assoc, add-comm, add-mul-div-right, one-le-pow, div-one, add-zero}
 use native.Mathlib.Omega.{arith}
-use lib.ListN.{length, getD, drop, length-drop}
-use lib.Seq.{length-take-le}
+use lib.ListN.{length, getD}
 use lib.Arith.{digits-div, digits-lt, mod-mul}
 use Rattle.blocks.specs.Bytes.{Bytes}
 use Rattle.blocks.specs.Number.{bigEndian, value}
 use Rattle.blocks.specs.Put.{part, tab}
-use Rattle.blocks.proofs.Xor.{bytes-take, bytes-drop}
-use Rattle.blocks.proofs.Parts.{tab-part}
+use Rattle.blocks.proofs.Parts.{part-length, part-bytes, tab-part}
 
 pub bigEndian-length : (w x : ℕ) → length (bigEndian w x) ≡ w
 unfolding bigEndian
@@ -46,6 +44,9 @@ unfolding value
 value-lt [] b = omega arith
 value-lt (x ∷ s) b = rw pow-succ' (digits-lt (b 0) (value-lt s (λ i. b (suc i))))
 
+pub part-lt : (at w : ℕ) (s : List ℕ) → Bytes s → at + w ≤ length s → value (part at w s) < 256 ^ w
+part-lt at w s b h = subst (λ (k : ℕ). value (part at w s) < 256 ^ k) (part-length at w s h) (value-lt (part at w s) (part-bytes at w s b))
+
 -- what stands above the w bytes does not show
 bigEndian-low : (w a x : ℕ) → bigEndian w (x + a * 256 ^ w) ≡ bigEndian w x
 unfolding bigEndian
@@ -68,8 +69,7 @@ bigEndian-value (x ∷ s) b =
 -- a part of a list is the bytes of the number that it says
 pub bigEndian-part : (at w : ℕ) (s : List ℕ) → Bytes s → at + w ≤ length s → bigEndian w (value (part at w s)) ≡ part at w s
 bigEndian-part at w s b h =
-    let size : length (part at w s) ≡ w = length-take-le w (drop at s) (simp length-drop (omega arith)) in
-    ap (λ (k : ℕ). bigEndian k (value (part at w s))) (sym size) ∙ bigEndian-value (part at w s) (bytes-take w (drop at s) (bytes-drop at s b))
+    ap (λ (k : ℕ). bigEndian k (value (part at w s))) (sym (part-length at w s h)) ∙ bigEndian-value (part at w s) (part-bytes at w s b)
 
 -- ---- four bytes
 

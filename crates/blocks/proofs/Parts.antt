@@ -1,4 +1,4 @@
--- Parts written one behind the other, and loops that write an element a turn. Assumes nothing.
+-- Parts of a list, parts written one behind the other, and loops that write an element a turn. Assumes nothing.
 use mathlib.Core.Path.{_≡_, refl, ap, sym, _∙_}
 use mathlib.Core.List.{List, [], _∷_, _++_, append-assoc, append-nil}
 use Prim.Native.Nat.{ℕ, zero, suc, _+_, _-_, _≤_, _<_}
@@ -6,8 +6,30 @@ use native.Mathlib.Nat.{zero-add, add-zero, add-assoc}
 use native.Mathlib.Numerals.{add-one}
 use native.Mathlib.Omega.{arith}
 use lib.ListN.{length, getD, take, drop, set, replicate, length-append, length-drop, length-replicate, take-append-drop, replicate-append-replicate}
-use lib.Seq.{length-take-le, take-at, drop-at, drop-drop, drop-append-add, drop-cons, set-at, drop-length, getD-drop, take-suc, take-length}
+use lib.Seq.{length-take-le, take-take, take-at, drop-at, drop-drop, drop-append-add, drop-cons, set-at, drop-length, getD-drop, take-suc, take-length}
+use Rattle.blocks.specs.Bytes.{Bytes}
 use Rattle.blocks.specs.Put.{put, tab, part}
+use Rattle.blocks.proofs.Xor.{bytes-take, bytes-drop}
+
+-- ---- parts
+
+pub part-length : (at n : ℕ) (s : List ℕ) → at + n ≤ length s → length (part at n s) ≡ n
+part-length at n s h = length-take-le n (drop at s) (omega (arith, length-drop at s))
+
+pub part-bytes : (at n : ℕ) (s : List ℕ) → Bytes s → Bytes (part at n s)
+part-bytes at n s b = bytes-take n (drop at s) (bytes-drop at s b)
+
+-- of what is taken of a list, and of a part
+pub part-take : (p n k : ℕ) (l : List ℕ) → p + n ≤ k → part p n (take k l) ≡ part p n l
+part-take zero n k l h = take-take n k l (omega arith)
+part-take (suc p) n zero l h = absurd (omega arith)
+part-take (suc p) n (suc k) [] h = refl
+part-take (suc p) n (suc k) (x ∷ l) h = part-take p n k l (omega arith)
+
+pub part-part : (at k p n q : ℕ) (o : List ℕ) → p + n ≤ k → q ≡ at + p → part p n (part at k o) ≡ part q n o
+part-part at k p n q o h e = part-take p n k (drop at o) h ∙ ap (take n) (drop-drop p at o) ∙ ap (λ (i : ℕ). part i n o) (sym e)
+
+-- ---- written, one behind the other and element by element
 
 pub tab-length : (n : ℕ) (f : ℕ → ℕ) → length (tab n f) ≡ n
 unfolding tab
@@ -107,7 +129,7 @@ put-whole xs o e = put-start xs o ∙ ap (λ (k : ℕ). xs ++ drop k o) e ∙ ap
 pub put-part : (at n : ℕ) (s o : List ℕ) → at + n ≤ length s → length o ≡ n → put 0 (part at (at + n - at) s) o ≡ part at n s
 put-part at n s o h l =
     let e : at + n - at ≡ n = omega arith in
-    ap (λ (k : ℕ). put 0 (part at k s) o) e ∙ put-whole (part at n s) o (length-take-le n (drop at s) (omega (arith, length-drop at s)) ∙ sym l)
+    ap (λ (k : ℕ). put 0 (part at k s) o) e ∙ put-whole (part at n s) o (part-length at n s h ∙ sym l)
 
 -- written over zeros, from the start
 pub put-zeros : (xs : List ℕ) (n : ℕ) → length xs ≤ n → put 0 xs (replicate n 0) ≡ xs ++ replicate (n - length xs) 0

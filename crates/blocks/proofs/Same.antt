@@ -6,11 +6,12 @@ use Prim.Native.Nat.{ℕ, _+_, _≤_, _<_}
 use native.Mathlib.Numerals.{add-one}
 use native.Mathlib.Omega.{arith}
 use lib.Dec.{eqb}
-use lib.ListN.{length, take, drop, getD, length-drop}
+use lib.ListN.{length, take, drop, getD}
 use lib.Seq.{take-suc, length-take-le, take-all, getD-take, getD-drop}
 use borrow.Author.Tests.{eqb-true, eq-eqb, ne-eqb}
 use Rattle.blocks.specs.Bytes.{sameBytes}
 use Rattle.blocks.specs.Put.{part}
+use Rattle.blocks.proofs.Parts.{part-length}
 
 pub both-true : (a b : Bool) → (a && b) ≡ true → (a ≡ true) × (b ≡ true)
 both-true true b e = (refl, e)
@@ -44,7 +45,7 @@ module _ (b s : List ℕ) (at : ℕ) (size : length b ≡ 16) (fits : at + 16 �
   compared i = sameBytes (take i b) (take i (part at 16 s))
 
   there : length (part at 16 s) ≡ 16
-  there = length-take-le 16 (drop at s) (simp length-drop (omega arith))
+  there = part-length at 16 s (omega arith)
 
   more : (i : ℕ) → i < 16 → compared (i + 1) ≡ (compared i && eqb (getD b i 0) (getD s (at + i) 0))
   more i h =

@@ -17,10 +17,6 @@ use Rattle.calls.specs.Calls.{callCount, tapeNeed}
 use Rattle.calls.specs.Entry.{inputCauses, sealCauses, sealAnswer, laneSize, reportCauses, hasLane, reportAnswer}
 use Rattle.calls.specs.Demand.{Accepted}
 
-infixr 20 _also_
-_also_ : {A B : Type 0} → A → B → A × B
-a also b = (a, b)
-
 -- what sealing and the report ask alike
 pub record Sealable (x : Sender) (m t : List ℕ) : Type 0 where
   pub keyed : x .keyed ≡ true
@@ -31,8 +27,7 @@ pub record Sealable (x : Sender) (m t : List ℕ) : Type 0 where
 module _ (x : Sender) (m t : List ℕ) where
   sealable-none : (cs : List Cause) → Sealable x m t → NoneOf cs → NoneOf (inputCauses x m t cs)
   sealable-none cs S h =
-      ap not (S .keyed) also ne-eqb (x .last) greatest (S .left) also le-ltb longest (length m) (S .small)
-      also le-ltb (length t) (tapeNeed (length m)) (S .long) also h
+      (ap not (S .keyed), (ne-eqb (x .last) greatest (S .left), (le-ltb longest (length m) (S .small), (le-ltb (length t) (tapeNeed (length m)) (S .long), h))))
 
   none-sealable : (cs : List Cause) → NoneOf (inputCauses x m t cs) → Sealable x m t
   none-sealable cs h = record {
@@ -46,7 +41,7 @@ module _ (x : Sender) (m t : List ℕ) where
 
   pub accepted : (o : ℕ) → Sealable x m t → recordSize (length m) ≤ o → Accepted x m t o
   unfolding sealAnswer
-  accepted o S h = done-none (sealCauses x m t o) _ (sealable-none (drop 4 (sealCauses x m t o)) S (le-ltb o (recordSize (length m)) h also tt))
+  accepted o S h = done-none (sealCauses x m t o) _ (sealable-none (drop 4 (sealCauses x m t o)) S (le-ltb o (recordSize (length m)) h, tt))
 
   module _ (o : ℕ) (A : Accepted x m t o) where
     none : NoneOf (sealCauses x m t o)
@@ -64,7 +59,7 @@ module _ (x : Sender) (m t : List ℕ) where
     unfolding plainAnswer
     plain-done keys s e h =
         done-none (plainCauses keys s m o) _
-        (ap not (eq-eqb (length keys) plainKeys e) also ne-eqb s 0 (λ z. omega arith) also none .1 .1 .0 also none .1 .1 .1 .1)
+        (ap not (eq-eqb (length keys) plainKeys e), (ne-eqb s 0 (λ z. omega arith), (none .1 .1 .0, none .1 .1 .1 .1)))
 
   -- ---- the report
 
@@ -73,7 +68,7 @@ module _ (x : Sender) (m t : List ℕ) where
   unfolding reportAnswer
   reported k r i o S k₁ kₙ r₁ rₙ i₂ h =
       done-none (reportCauses x m t k r i o) (done []) (sealable-none (drop 4 (reportCauses x m t k r i o)) S
-      (ap not has also le-ltb o laneSize h also tt))
+      (ap not has, (le-ltb o laneSize h, tt)))
     where
       has : hasLane (length m) k r i ≡ true
       has = simp (ne-eqb k 0 (λ e. omega arith), le-ltb (callCount (blockCount (length m))) k kₙ, ne-eqb r 0 (λ e. omega arith), le-ltb rounds r rₙ, lt-ltb i 3 i₂)

@@ -6,11 +6,12 @@ use mathlib.Core.Logic.{_↔_}
 use Prim.Native.Nat.{ℕ, _+_, _-_, _*_, _^_, _≤_, _<_}
 use native.Mathlib.Decide.{decLt}
 use native.Mathlib.Omega.{arith}
-use lib.ListN.{length, take, drop, replicate, length-append, length-replicate, length-drop}
-use lib.Seq.{take-at, drop-at, take-all, length-take-le}
+use lib.ListN.{length, take, replicate, length-append, length-replicate}
+use lib.Seq.{take-at, drop-at, take-all}
 use Rattle.blocks.specs.Bytes.{Bytes}
 use Rattle.blocks.specs.Put.{part, put}
-use Rattle.blocks.proofs.Xor.{bytes-take, bytes-drop, bytes-replicate}
+use Rattle.blocks.proofs.Xor.{bytes-replicate}
+use Rattle.blocks.proofs.Parts.{part-length, part-bytes}
 use Rattle.baksheesh.specs.Baksheesh.{rounds}
 use Rattle.answers.specs.Answer.{done, refused, FirstOf}
 use Rattle.answers.proofs.First.{if-done, if-refused, first-refused, refused-first}
@@ -115,10 +116,10 @@ pub keyed-formed : (n : ℕ) (keys : List ℕ) → n < 256 ^ numberSize → leng
 keyed-formed n keys h e b = record {
   number = h;
   last = omega arith;
-  ke-size = length-take-le 48 (drop 0 keys) (omega arith);
-  ke-bytes = bytes-take 48 (drop 0 keys) (bytes-drop 0 keys b);
-  km-size = length-take-le 48 (drop 48 keys) (simp length-drop (omega arith));
-  km-bytes = bytes-take 48 (drop 48 keys) (bytes-drop 48 keys b);
+  ke-size = part-length 0 48 keys (omega arith);
+  ke-bytes = part-bytes 0 48 keys b;
+  km-size = part-length 48 48 keys (omega arith);
+  km-bytes = part-bytes 48 48 keys b;
 }
 
 pub advanced-formed : (x : Sender) (m t : List ℕ) (o : ℕ) → Formed x → Accepted x m t o → Formed (advanced x)

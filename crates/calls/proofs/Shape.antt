@@ -5,11 +5,12 @@ use mathlib.Core.List.{List}
 use Prim.Native.Nat.{ℕ, zero, suc, _+_, _-_, _*_, _≤_}
 use native.Mathlib.Decide.{decLt}
 use native.Mathlib.Omega.{arith}
-use lib.ListN.{length, take, drop, replicate, length-append, length-take, length-drop, length-replicate}
+use lib.ListN.{length, take, replicate, length-append, length-take, length-replicate}
 use borrow.Author.Tests.{eq-eqb, ne-eqb}
 use Rattle.blocks.specs.Bytes.{Bytes, Block}
 use Rattle.blocks.specs.Put.{part}
-use Rattle.blocks.proofs.Xor.{⊕-block, bytes-take, bytes-drop, bytes-append, bytes-replicate, zeros-block}
+use Rattle.blocks.proofs.Xor.{⊕-block, bytes-take, bytes-append, bytes-replicate, zeros-block}
+use Rattle.blocks.proofs.Parts.{part-length, part-bytes}
 use Rattle.modes.specs.Pieces.{piece}
 use Rattle.modes.specs.Cmac.{padded}
 use Rattle.modes.proofs.Pieces.{piece-le, piece-bytes}
@@ -31,7 +32,7 @@ pub shares-in : (b : List ℕ) → length b ≡ 48 → Bytes b → Blocks (share
 shares-in b e h = three-blocks (cell 0 (omega arith)) (cell 16 (omega arith)) (cell 32 (omega arith))
   where
     cell : (p : ℕ) → p + 16 ≤ 48 → Block (part p 16 b)
-    cell p l = record { size = simp (length-take, length-drop) (omega arith); bytes = bytes-take 16 (drop p b) (bytes-drop p b h) }
+    cell p l = record { size = part-length p 16 b (omega arith); bytes = part-bytes p 16 b h }
 
 pub ke-block : {x : Sender} → Formed x → Block (joinedKE x)
 ke-block {x} F = join-block (shares-in (x .ke) (F .ke-size) (F .ke-bytes))

@@ -7,14 +7,13 @@ use mathlib.Core.Logic.{_↔_}
 use Prim.Native.Nat.{ℕ, _-_, _^_, _≤_, _<_}
 use native.Mathlib.Omega.{arith}
 use lib.Dec.{eqb}
-use lib.ListN.{length, take, drop, length-drop}
-use lib.Seq.{length-take-le, take-at}
+use lib.ListN.{length, take, drop}
+use lib.Seq.{take-at}
 use borrow.Author.Tests.{ltb-false, leb-false, eqb-true, not-false, le-ltb, le-leb, lt-leb, eq-eqb}
 use Rattle.blocks.specs.Bytes.{Bytes, sameBytes}
-use Rattle.blocks.specs.Put.{put, part}
-use Rattle.blocks.proofs.Xor.{bytes-take, bytes-drop}
-use Rattle.blocks.proofs.Numbers.{value-lt}
-use Rattle.blocks.proofs.Parts.{put-start}
+use Rattle.blocks.specs.Put.{put}
+use Rattle.blocks.proofs.Parts.{part-length, part-bytes, put-start}
+use Rattle.blocks.proofs.Numbers.{part-lt}
 use Rattle.blocks.proofs.Same.{same-true, same-refl}
 use Rattle.answers.specs.Answer.{done, refused, FirstOf, NoneOf}
 use Rattle.answers.proofs.First.{none-done, done-none, done-values, if-done, first-refused, refused-first}
@@ -31,18 +30,15 @@ module _ (x : Receiver) (F : Formed x) where
 
   module _ (r : List ℕ) (b : Bytes r) where
     text-bytes : Bytes (textIn r)
-    text-bytes = bytes-take (messageSize r) (drop headSize r) (bytes-drop headSize r b)
+    text-bytes = part-bytes headSize (messageSize r) r b
 
     message-length : recordSize 0 ≤ length r → length (messageIn x r) ≡ messageSize r
     message-length h =
         crypted-length (F .ke) (F .km) (x .number) (sequenceIn r) (textIn r)
-        ∙ length-take-le (messageSize r) (drop headSize r) (simp length-drop (omega arith))
+        ∙ part-length headSize (messageSize r) r (omega arith)
 
     sequence-fits : recordSize 0 ≤ length r → sequenceIn r < 256 ^ sequenceSize
-    sequence-fits h =
-        let size : length (part numberSize sequenceSize r) ≡ sequenceSize = length-take-le sequenceSize (drop numberSize r) (simp length-drop (omega arith)) in
-        subst (λ (k : ℕ). sequenceIn r < 256 ^ k) size
-        (value-lt (part numberSize sequenceSize r) (bytes-take sequenceSize (drop numberSize r) (bytes-drop numberSize r b)))
+    sequence-fits h = part-lt numberSize sequenceSize r b (omega arith)
 
     none-sealed : (o : ℕ) → NoneOf (openCauses x r o) → Sealed x r (messageIn x r) (sequenceIn r)
     unfolding plainRecord

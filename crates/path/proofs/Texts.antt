@@ -1,17 +1,17 @@
 -- The ciphertext's blocks in shares, as they are made: cut, completed, joined; the last block's subkey. Assumes nothing.
-use mathlib.Core.Path.{_≡_, refl, sym, ap, ap₂, _∙_}
+use mathlib.Core.Path.{_≡_, sym, ap, ap₂, _∙_}
 use mathlib.Core.Bool.{Bool, cond}
-use mathlib.Core.List.{List, [], _∷_, _++_}
-use Prim.Native.Nat.{ℕ, zero, suc, _+_, _-_, _*_, _%_, _≤_}
+use mathlib.Core.List.{List, _++_}
+use Prim.Native.Nat.{ℕ, suc, _+_, _-_, _*_, _%_, _≤_}
 use native.Mathlib.Omega.{arith}
 use lib.Dec.{eqb}
-use lib.ListN.{length, take, drop, replicate, length-drop}
-use lib.Seq.{length-take-le, take-take, drop-drop}
+use lib.ListN.{length, drop, replicate}
+use lib.Seq.{take-take}
 use borrow.Author.Tests.{eq-eqb, ne-eqb}
 use Rattle.blocks.specs.Bytes.{_⊕_, zeros}
 use Rattle.blocks.specs.Put.{part, put}
 use Rattle.blocks.proofs.Xor.{⊕-zero}
-use Rattle.blocks.proofs.Parts.{put-zeros}
+use Rattle.blocks.proofs.Parts.{part-length, part-part, put-zeros}
 use Rattle.packed.specs.Packed.{unpacked}
 use Rattle.packed.proofs.Words.{unpacked-block}
 use Rattle.modes.specs.Pieces.{piece}
@@ -25,26 +25,14 @@ use Rattle.shares.proofs.Packed.{shares-same}
 use Rattle.calls.specs.Sealed.{cut, completed, lastKey, textBlock}
 use Rattle.path.specs.Walk.{blockShares}
 
--- ---- parts
-
 -- the first n bytes of a block, written over zeros
 pub cut-written : (at n : ℕ) (s : List ℕ) → at + 16 ≤ length s → n ≤ 16 → put 0 (part at (at + n - at) s) (replicate 16 0) ≡ cut n (part at 16 s)
 cut-written at n s l h =
     let e : at + n - at ≡ n = omega arith in
-    let k : length (part at n s) ≡ n = length-take-le n (drop at s) (omega (arith, length-drop at s)) in
+    let k : length (part at n s) ≡ n = part-length at n s (omega arith) in
     ap (λ (i : ℕ). put 0 (part at i s) (replicate 16 0)) e
     ∙ put-zeros (part at n s) 16 (omega arith)
     ∙ ap₂ (λ (b : List ℕ) (i : ℕ). b ++ replicate (16 - i) 0) (sym (take-take n 16 (drop at s) h)) k
-
-part-take : (p n k : ℕ) (l : List ℕ) → p + n ≤ k → part p n (take k l) ≡ part p n l
-part-take zero n k l h = take-take n k l (omega arith)
-part-take (suc p) n zero l h = absurd (omega arith)
-part-take (suc p) n (suc k) [] h = refl
-part-take (suc p) n (suc k) (x ∷ l) h = part-take p n k l (omega arith)
-
--- a part of a part
-pub part-part : (at k p n q : ℕ) (o : List ℕ) → p + n ≤ k → q ≡ at + p → part p n (part at k o) ≡ part q n o
-part-part at k p n q o h e = part-take p n k (drop at o) h ∙ ap (take n) (drop-drop p at o) ∙ ap (λ (i : ℕ). part i n o) (sym e)
 
 -- ---- the last block's subkey
 

@@ -1,18 +1,19 @@
 -- The statements on sealing carried to links that are lent as bytes. Assumes nothing.
-use mathlib.Core.Path.{_≡_, refl, ap, _∙_, subst}
+use mathlib.Core.Path.{_≡_, refl, ap, _∙_}
 use mathlib.Core.Bool.{Bool, true, false, cond}
 use mathlib.Core.List.{List, _++_}
-use Prim.Native.Nat.{ℕ, _+_, _^_, _≤_, _<_}
+use Prim.Native.Nat.{ℕ, _+_, _≤_, _<_}
 use native.Mathlib.Omega.{arith}
 use lib.Dec.{eqb}
-use lib.ListN.{length, getD, drop, length-drop, length-replicate}
-use lib.Seq.{length-take-le}
+use lib.ListN.{length, getD, length-replicate}
 use borrow.Author.Tests.{eqb-true, le-ltb}
 use Rattle.blocks.specs.Bytes.{Bytes}
 use Rattle.blocks.specs.Number.{value}
 use Rattle.blocks.specs.Put.{part}
-use Rattle.blocks.proofs.Xor.{bytes-take, bytes-drop, bytes-replicate}
-use Rattle.blocks.proofs.Numbers.{value-lt}
+use Rattle.blocks.proofs.Xor.{bytes-replicate}
+use Rattle.blocks.proofs.Parts.{part-length, part-bytes}
+use Rattle.blocks.proofs.Numbers.{part-lt}
+use Rattle.links.specs.Record.{numberSize, sequenceSize}
 use Rattle.links.specs.Links.{freshSender}
 use Rattle.links.specs.declared.Sender.{Sender}
 use Rattle.baksheesh.specs.Baksheesh.{rounds}
@@ -41,23 +42,14 @@ either false x y f g = g refl
 pub formed-in : (b : List ℕ) → Bytes b → Formed (senderIn b)
 formed-in b h = either (eqb (length b) senderSize) _ _ (λ e. said (eqb-true (length b) senderSize e)) (λ e. fresh)
   where
-    size : (at n : ℕ) → at + n ≤ length b → length (part at n b) ≡ n
-    size at n l = length-take-le n (drop at b) (simp length-drop (omega arith))
-
-    bytes : (at n : ℕ) → Bytes (part at n b)
-    bytes at n = bytes-take n (drop at b) (bytes-drop at b h)
-
-    fits : (at : ℕ) → at + 4 ≤ length b → value (part at 4 b) < 256 ^ 4
-    fits at l = subst (λ (n : ℕ). value (part at 4 b) < 256 ^ n) (size at 4 l) (value-lt (part at 4 b) (bytes at 4))
-
     said : length b ≡ senderSize → Formed (saidBy b)
     said l = record {
-      number = fits 1 (omega arith);
-      last = fits 5 (omega arith);
-      ke-size = size 9 48 (omega arith);
-      ke-bytes = bytes 9 48;
-      km-size = size 57 48 (omega arith);
-      km-bytes = bytes 57 48;
+      number = part-lt 1 numberSize b h (omega arith);
+      last = part-lt 5 sequenceSize b h (omega arith);
+      ke-size = part-length 9 48 b (omega arith);
+      ke-bytes = part-bytes 9 48 b h;
+      km-size = part-length 57 48 b (omega arith);
+      km-bytes = part-bytes 57 48 b h;
     }
 
     fresh : Formed freshSender

@@ -1,10 +1,10 @@
 -- The shared S-box: its bit form is the S-box's, its shares are blocks, and they join to SubCells. Assumes nothing.
 use mathlib.Core.Path.{_≡_, refl, sym, ap, ap₂, _∙_, fun-ext}
-use mathlib.Core.Bool.{Bool, true, false, _&&_, and-comm}
+use mathlib.Core.Bool.{Bool, true, false, _&&_}
 use mathlib.Core.List.{List}
 use Prim.Native.Nat.{ℕ, zero, suc, _+_, _*_}
 use Rattle.bits.specs.Bit.{_⊻_}
-use Rattle.bits.proofs.Laws.{⊻-assoc}
+use Rattle.bits.proofs.Laws.{⊻-assoc, ⊻-comm, ⊻-left-comm, and-⊻, ⊻-and}
 use Rattle.blocks.specs.Bytes.{Block, _⊕_}
 use Rattle.blocks.specs.Bits.{bitAt, cells, eachCell}
 use Rattle.blocks.proofs.ByBits.{isBlock, bit-⊕, blockOf-⊕}
@@ -12,24 +12,6 @@ use Rattle.blocks.proofs.Xor.{⊕-block}
 use Rattle.baksheesh.specs.Baksheesh.{sbox, subCells}
 use Rattle.shares.specs.Shares.{Index, i₀, i₁, i₂, next, isFirst, Shares, Blocks, join}
 use Rattle.shares.specs.Sbox.{form, shareBit, sboxShare}
-
--- ---- bits
-
-⊻-comm : (a b : Bool) → (a ⊻ b) ≡ (b ⊻ a)
-⊻-comm true true = refl
-⊻-comm true false = refl
-⊻-comm false true = refl
-⊻-comm false false = refl
-
-⊻-left-comm : (a b c : Bool) → (a ⊻ (b ⊻ c)) ≡ (b ⊻ (a ⊻ c))
-⊻-left-comm a b c = sym (⊻-assoc a b c) ∙ ap (λ (z : Bool). z ⊻ c) (⊻-comm a b) ∙ ⊻-assoc b a c
-
-and-⊻ : (a b c : Bool) → (a && (b ⊻ c)) ≡ ((a && b) ⊻ (a && c))
-and-⊻ true b c = refl
-and-⊻ false b c = refl
-
-⊻-and : (a b c : Bool) → ((a ⊻ b) && c) ≡ ((a && c) ⊻ (b && c))
-⊻-and a b c = and-comm (a ⊻ b) c ∙ and-⊻ c a b ∙ ap₂ _⊻_ (and-comm c a) (and-comm c b)
 
 -- ---- the bit form
 

@@ -1,16 +1,17 @@
 -- Tapes: what is read of one at a place, and where a block was written over it. Assumes nothing.
 use mathlib.Core.Path.{_≡_, refl, sym, ap, _∙_}
-use mathlib.Core.List.{List, [], _∷_, _++_, append-assoc}
+use mathlib.Core.List.{List, _++_, append-assoc}
 use mathlib.Core.Logic.{inl, inr}
-use Prim.Native.Nat.{ℕ, zero, suc, _+_, _-_, _≤_, _<_}
+use Prim.Native.Nat.{ℕ, _+_, _-_, _≤_, _<_}
 use native.Mathlib.Nat.{lt-of-not-le}
 use native.Mathlib.Decide.{decLe}
 use native.Mathlib.Omega.{arith}
-use lib.ListN.{length, take, drop, getD, length-take, length-drop, length-append}
-use lib.Seq.{getD-take, getD-drop, ext-getD, take-at, drop-at, take-take, length-take-le}
+use lib.ListN.{length, take, drop, getD, length-append}
+use lib.Seq.{getD-take, getD-drop, ext-getD, take-at, drop-at, length-take-le}
 use Rattle.blocks.specs.Bytes.{Bytes, Block}
 use Rattle.blocks.specs.Put.{part, put}
 use Rattle.blocks.proofs.Xor.{bytes-take, bytes-drop, bytes-append}
+use Rattle.blocks.proofs.Parts.{part-length, part-bytes, part-take}
 use Rattle.shares.specs.Tape.{at}
 use Rattle.shares.specs.OneTape.{Outside}
 use Rattle.shares.proofs.Shape.{Reads}
@@ -34,11 +35,11 @@ where-is p w j = go (decLe p j) (decLe (p + w) j)
 
 pub at-size : (t : List ℕ) (p : ℕ) → p + 16 ≤ length t → length (at t p) ≡ 16
 unfolding at
-at-size t p h = simp (length-take, length-drop) (omega arith)
+at-size t p h = part-length p 16 t h
 
 pub at-reads : (t : List ℕ) (o : ℕ) → Bytes t → o ≤ length t → Reads (at t) o
 unfolding at
-at-reads t o b h p k = record { size = at-size t p (omega arith); bytes = bytes-take 16 (drop p t) (bytes-drop p t b) }
+at-reads t o b h p k = record { size = at-size t p (omega arith); bytes = part-bytes p 16 t b }
 
 pub at-getD : (t : List ℕ) (p j : ℕ) → j < 16 → getD (at t p) j 0 ≡ getD t (p + j) 0
 unfolding at
@@ -60,16 +61,9 @@ at-inside t u p j e h k =
     ∙ at-getD u p (j - p) (omega arith) ∙ ap (λ (n : ℕ). getD u n 0) q
 
 -- what stands before o tells what is read before o
-at-take : (t : List ℕ) (o p : ℕ) → p + 16 ≤ o → part p 16 (take o t) ≡ part p 16 t
-at-take t o zero h = take-take 16 o t (omega arith)
-at-take [] zero (suc p) h = refl
-at-take [] (suc o) (suc p) h = refl
-at-take (x ∷ t) zero (suc p) h = absurd (omega arith)
-at-take (x ∷ t) (suc o) (suc p) h = at-take t o p (omega arith)
-
 pub take-agree : (t u : List ℕ) (o : ℕ) → take o t ≡ take o u → Agree (at t) (at u) o
 unfolding at
-take-agree t u o e p h = sym (at-take t o p h) ∙ ap (part p 16) e ∙ at-take u o p h
+take-agree t u o e p h = sym (part-take p 16 o t h) ∙ ap (part p 16) e ∙ part-take p 16 o u h
 
 -- ---- a block b written over a tape t from p on
 
