@@ -1,6 +1,6 @@
 //! A C call with everything that it is lent, held to what the code of these tests says it does.
 
-use crate::guarded::Guarded;
+use crate::guarded::{Guarded, Place};
 use crate::hex::First;
 use crate::tally::Tally;
 use std::fmt::{self, Display, Formatter};
@@ -56,14 +56,18 @@ pub fn hold_answer<C: Call>(tally: &mut Tally, before: &C, answer: u32, shift: u
 }
 
 /// Makes the call and holds everything it can be seen to do: its answer, all slices after it, and
-/// the guards on both sides of each. A call with empty slices is made a second time, with null
-/// pointers in their place. `shift` moves the slices in memory, each by another number of bytes.
+/// the guards beside each. It is made with all slices in each of three places: before a forbidden
+/// page, after one, and shifted. A call with empty slices is made in each once more, with null
+/// pointers in their place.
 pub fn hold_as<C: Call>(tally: &mut Tally, before: &C, answer: u32, after: &C, shift: usize) -> Done<C> {
     let has_empty = before.clone().slices().iter().any(|(_, slice)| slice.is_empty());
-    if has_empty {
-        hold_once(tally, before, answer, after, shift, true);
-    }
-    hold_once(tally, before, answer, after, shift, false)
+    let [.., done] = [Place::BeforePage, Place::AfterPage, Place::Shifted(shift)].map(|place| {
+        if has_empty {
+            hold_once(tally, before, answer, after, place, true);
+        }
+        hold_once(tally, before, answer, after, place, false)
+    });
+    done
 }
 
 fn hold_once<C: Call>(
@@ -71,13 +75,16 @@ fn hold_once<C: Call>(
     before: &C,
     answer: u32,
     after: &C,
-    shift: usize,
+    place: Place,
     nulls: bool,
 ) -> Done<C> {
-    let shift_of = |i: usize| shift >> (4 * i);
     let mut left = before.clone();
-    let mut guarded: Vec<Guarded> =
-        left.slices().iter().enumerate().map(|(i, (_, slice))| Guarded::new(slice, shift_of(i))).collect();
+    let mut guarded: Vec<Guarded> = left
+        .slices()
+        .iter()
+        .enumerate()
+        .map(|(i, (_, slice))| Guarded::new(slice, place.of_slice(i)))
+        .collect();
     let lent: Vec<Lent> = guarded
         .iter_mut()
         .map(|slice| match slice.length() {
@@ -89,13 +96,13 @@ fn hold_once<C: Call>(
     let got = unsafe { before.make(&lent) };
 
     let with = if nulls { " with nulls" } else { "" };
-    tally.same_number(format_args!("answer{with} of {}", Shown(before)), got, answer);
+    tally.same_number(format_args!("answer, {place:?}{with}, of {}", Shown(before)), got, answer);
     let mut expected = after.clone();
-    for (i, (name, slice)) in expected.slices().into_iter().enumerate() {
+    for ((name, slice), guarded) in expected.slices().into_iter().zip(&guarded) {
         tally.same(
-            format_args!("{name} and guards after{with} {}", Shown(before)),
-            guarded[i].whole(),
-            Guarded::new(slice, shift_of(i)).whole(),
+            format_args!("{name} and guards, {place:?}{with}, after {}", Shown(before)),
+            guarded.whole(),
+            &guarded.whole_with(slice),
         );
     }
     for ((_, slice), guarded) in left.slices().into_iter().zip(&guarded) {

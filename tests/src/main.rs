@@ -7,10 +7,13 @@
 //!     tests decrypt KEY BLOCK     the plaintext
 //!     tests cases COUNT [SEED]    lines of key, block, ciphertext: the published vectors, then
 //!                                 COUNT random ones by the tests' own cipher
-//!     tests records               what the program `records` has to print
-//!     tests lanes                 what the program `lanes` has to print
+//!     tests vectors | records | lanes | rack
+//!                                 what the program of this name has to print
+//!     tests read AT               reads byte AT of 16 bytes lent as to a C call: at -1 and at 16 a
+//!                                 signal has to end the run
 
 mod aes;
+mod astray;
 mod blocks;
 mod cipher;
 mod definition;
@@ -84,6 +87,14 @@ const GROUPS: &[(&str, fn(&mut Tally))] = &[
     ("all calls, mixed, over kept links", runs::mixed),
 ];
 
+/// The programs with stored output: each with what prints the same by the code of these tests.
+const PROGRAMS: &[(&str, fn())] = &[
+    ("vectors", samples::vectors),
+    ("records", samples::records),
+    ("lanes", samples::lanes),
+    ("rack", samples::rack),
+];
+
 fn main() -> ExitCode {
     let words: Vec<String> = env::args().skip(1).collect();
     let words: Vec<&str> = words.iter().map(String::as_str).collect();
@@ -91,9 +102,8 @@ fn main() -> ExitCode {
         Some(code) => code,
         None => {
             eprintln!("usage: tests [--self-test] [SEED]");
-            eprintln!(
-                "       tests encrypt KEY BLOCK | decrypt KEY BLOCK | cases COUNT [SEED] | records | lanes"
-            );
+            eprintln!("       tests encrypt KEY BLOCK | decrypt KEY BLOCK | cases COUNT [SEED]");
+            eprintln!("       tests vectors | records | lanes | rack | read AT");
             ExitCode::from(2)
         }
     }
@@ -112,18 +122,20 @@ fn obey(words: &[&str]) -> Option<ExitCode> {
         }
         ["cases", count] => print_cases(count.parse().ok()?, SEED),
         ["cases", count, seed] => print_cases(count.parse().ok()?, number(seed)?),
-        ["records"] => {
-            samples::records();
-            Some(ExitCode::SUCCESS)
-        }
-        ["lanes"] => {
-            samples::lanes();
+        ["read", at] => {
+            astray::read(&mut Tally::new(SEED, false), at.parse().ok()?);
             Some(ExitCode::SUCCESS)
         }
         ["--self-test"] => self_test(SEED),
         ["--self-test", seed] => self_test(number(seed)?),
         [] => all_checks(SEED),
-        [seed] => all_checks(number(seed)?),
+        [word] => match PROGRAMS.iter().find(|(name, _)| name == word) {
+            Some((_, print)) => {
+                print();
+                Some(ExitCode::SUCCESS)
+            }
+            None => all_checks(number(word)?),
+        },
         _ => None,
     }
 }

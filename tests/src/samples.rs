@@ -1,8 +1,11 @@
-//! What the programs `records` and `lanes` have to print, by the code of these tests.
+//! What the programs `vectors`, `records`, `lanes` and `rack` have to print, by the code of these
+//! tests.
 
+use crate::cipher;
 use crate::hex::Hex;
 use crate::links;
 use crate::shares;
+use crate::vectors::PUBLISHED;
 
 const NUMBER: u32 = 0x0102_0304;
 
@@ -21,6 +24,20 @@ fn digits(bytes: &[u8]) -> String {
         "-".to_string()
     } else {
         Hex(bytes).to_string()
+    }
+}
+
+// ---- the published vectors
+
+pub fn vectors() {
+    for (i, vector) in PUBLISHED.iter().enumerate() {
+        let (key, plaintext, ciphertext) = vector.blocks();
+        assert_eq!(cipher::encrypt(&key, &plaintext), ciphertext);
+        assert_eq!(cipher::decrypt(&key, &ciphertext), plaintext);
+        for engine in ["table", "packed"] {
+            println!("{} encrypt {engine} {}", i + 1, vector.ciphertext);
+            println!("{} decrypt {engine} {}", i + 1, vector.plaintext);
+        }
     }
 }
 
@@ -135,4 +152,44 @@ pub fn lanes() {
     report("257 bytes", &link, &message(257), &tape(need), 1, 48);
     report("not keyed", &not_keyed, &[], &tape(need), 1, 48);
     report("output one short", &link, &[], &tape(need), 1, 47);
+}
+
+// ---- the rack's loop
+
+/// Byte i is i modulo 251.
+fn modulo_251(length: usize) -> Vec<u8> {
+    (0..length).map(|i| (i % 251) as u8).collect()
+}
+
+/// Seals with slices of these lengths, and prints the record or the refusal's number.
+fn turn(link: &mut [u8], message: usize, tape: usize, room: usize) {
+    let mut record = vec![0; room];
+    let mut shares = [0; links::SHARES];
+    match links::seal(link, &modulo_251(message), &modulo_251(tape), &mut record, &mut shares) {
+        0 => println!("{}", Hex(&record[..message + links::ADDED])),
+        refusal => println!("{refusal}"),
+    }
+}
+
+pub fn rack() {
+    let mut link = vec![0; links::SENDER];
+    turn(&mut link, 257, 38_144, 280);
+    let keys = rising(links::SENDER_KEYS, 11, 37);
+    assert_eq!(links::key(&mut link, links::SENDER, NUMBER, &keys), 0);
+    for (message, tape, room) in [
+        (0, 2304, 24),
+        (0, 2303, 24),
+        (1, 4544, 24),
+        (16, 4544, 40),
+        (257, 38_144, 280),
+        (17, 6783, 41),
+        (17, 6784, 40),
+        (17, 6784, 41),
+        (257, 0, 0),
+        (20, 38_144, 280),
+        (256, 38_144, 279),
+        (256, 38_144, 280),
+    ] {
+        turn(&mut link, message, tape, room);
+    }
 }
