@@ -1,8 +1,8 @@
 -- What an entry answers: it does its work and returns values, or refuses under a number. Assumes nothing.
 use mathlib.Core.Path.{_≡_}
-use mathlib.Core.Bool.{Bool, false, not, cond}
+use mathlib.Core.Bool.{Bool, true, false, not, cond}
 use mathlib.Core.List.{List, [], _∷_}
-use Prim.Native.Nat.{ℕ}
+use Prim.Native.Nat.{ℕ, zero, suc}
 use lib.Dec.{T}
 use Rattle.blocks.specs.Put.{put}
 
@@ -24,6 +24,10 @@ first ((n when b) ∷ cs) a = cond b (refused n) (first cs a)
 abbrev pub numberOf : Answer → ℕ
 numberOf (done vs) = 0
 numberOf (refused n) = n
+
+-- the answer accepts: its number is 0, whatever values it returns
+abbrev pub Accepts : Answer → Type 0
+Accepts a = numberOf a ≡ 0
 
 -- the values that it returns
 abbrev pub valuesOf : Answer → List ℕ
@@ -48,3 +52,9 @@ pub data FirstOf (n : ℕ) : List Cause → Type 0 where
 abbrev pub NoneOf : List Cause → Type 0
 NoneOf [] = Unit {0}
 NoneOf ((n when b) ∷ cs) = (b ≡ false) × NoneOf cs
+
+-- no cause has the number 0
+abbrev pub numbered : List Cause → Bool
+numbered [] = true
+numbered ((zero when b) ∷ cs) = false
+numbered ((suc n when b) ∷ cs) = numbered cs

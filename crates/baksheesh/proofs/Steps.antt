@@ -1,6 +1,6 @@
 -- The S-box's bit form is the printed table and its inverse's the inverse table; the bit move takes bit i to its
--- place; key rotations add up. Assumes nothing.
-use mathlib.Core.Path.{_≡_, ap, _∙_}
+-- printed place; key rotations add up. Assumes nothing.
+use mathlib.Core.Path.{_≡_, sym, ap, _∙_}
 use mathlib.Core.Bool.{Bool}
 use mathlib.Core.List.{List}
 use Prim.Native.Nat.{ℕ, zero, suc, _<_}
@@ -13,7 +13,7 @@ use Rattle.blocks.specs.Bytes.{Block, _⊕_}
 use Rattle.blocks.specs.Bits.{bitAt}
 use Rattle.blocks.proofs.ByBits.{isBlock, bit-rearranged, rearranged-twice, rearranged-same, rearranged-block}
 use Rattle.blocks.proofs.Xor.{⊕-block}
-use Rattle.baksheesh.specs.Baksheesh.{sboxTable, invSboxTable, sbox, invSbox, cellOf, to, from, permBits, constant, rotated, round, after}
+use Rattle.baksheesh.specs.Baksheesh.{sboxTable, invSboxTable, sbox, invSbox, cellOf, permTable, to, from, permBits, constant, rotated, round, after}
 
 -- ---- SubCells
 
@@ -46,9 +46,12 @@ from-to = agree 128 (λ i. from (to i)) (λ i. i) tt
 pub to-from : (i : ℕ) → i < 128 → to (from i) ≡ i
 to-from = agree 128 (λ i. to (from i)) (λ i. i) tt
 
+pub to-table : (i : ℕ) → i < 128 → to i ≡ getD permTable i 0
+to-table = agree 128 to (λ i. getD permTable i 0) tt
+
 -- bit i goes to its place
-pub bit-permBits : (b : List ℕ) (i : ℕ) → i < 128 → bitAt (permBits b) (to i) ≡ bitAt b i
-bit-permBits b i h = bit-rearranged from b (to i) (at-inside to tt i h) ∙ ap (bitAt b) (from-to i h)
+pub bit-permBits : (b : List ℕ) (i : ℕ) → i < 128 → bitAt (permBits b) (getD permTable i 0) ≡ bitAt b i
+bit-permBits b i h = rw (sym (to-table i h)) (bit-rearranged from b (to i) (at-inside to tt i h) ∙ ap (bitAt b) (from-to i h))
 
 -- ---- the key
 

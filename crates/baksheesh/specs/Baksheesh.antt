@@ -46,7 +46,19 @@ invSubCells = eachCell invSbox
 
 -- ---- PermBits
 
--- where bit i goes, and where bit i comes from
+-- the bit move as printed: bit i goes to the place that stands at index i
+abbrev pub permTable : List ℕ
+permTable =
+    0 ∷ 33 ∷ 66 ∷ 99 ∷ 96 ∷ 1 ∷ 34 ∷ 67 ∷ 64 ∷ 97 ∷ 2 ∷ 35 ∷ 32 ∷ 65 ∷ 98 ∷ 3
+    ∷ 4 ∷ 37 ∷ 70 ∷ 103 ∷ 100 ∷ 5 ∷ 38 ∷ 71 ∷ 68 ∷ 101 ∷ 6 ∷ 39 ∷ 36 ∷ 69 ∷ 102 ∷ 7
+    ∷ 8 ∷ 41 ∷ 74 ∷ 107 ∷ 104 ∷ 9 ∷ 42 ∷ 75 ∷ 72 ∷ 105 ∷ 10 ∷ 43 ∷ 40 ∷ 73 ∷ 106 ∷ 11
+    ∷ 12 ∷ 45 ∷ 78 ∷ 111 ∷ 108 ∷ 13 ∷ 46 ∷ 79 ∷ 76 ∷ 109 ∷ 14 ∷ 47 ∷ 44 ∷ 77 ∷ 110 ∷ 15
+    ∷ 16 ∷ 49 ∷ 82 ∷ 115 ∷ 112 ∷ 17 ∷ 50 ∷ 83 ∷ 80 ∷ 113 ∷ 18 ∷ 51 ∷ 48 ∷ 81 ∷ 114 ∷ 19
+    ∷ 20 ∷ 53 ∷ 86 ∷ 119 ∷ 116 ∷ 21 ∷ 54 ∷ 87 ∷ 84 ∷ 117 ∷ 22 ∷ 55 ∷ 52 ∷ 85 ∷ 118 ∷ 23
+    ∷ 24 ∷ 57 ∷ 90 ∷ 123 ∷ 120 ∷ 25 ∷ 58 ∷ 91 ∷ 88 ∷ 121 ∷ 26 ∷ 59 ∷ 56 ∷ 89 ∷ 122 ∷ 27
+    ∷ 28 ∷ 61 ∷ 94 ∷ 127 ∷ 124 ∷ 29 ∷ 62 ∷ 95 ∷ 92 ∷ 125 ∷ 30 ∷ 63 ∷ 60 ∷ 93 ∷ 126 ∷ 31 ∷ []
+
+-- by formula: where bit i goes, and where bit i comes from
 abbrev pub to : ℕ → ℕ
 to i = 4 * (i / 16) + 32 * ((3 * (i % 16 / 4) + i % 4) % 4) + i % 4
 

@@ -9,7 +9,7 @@ use borrow.Author.Tests.{ltb-false, eqb-false, not-false, lt-ltb, le-ltb, eq-eqb
 use Rattle.baksheesh.specs.Baksheesh.{rounds}
 use Rattle.modes.specs.Pieces.{blockCount}
 use Rattle.answers.specs.Answer.{Cause, done, NoneOf}
-use Rattle.answers.proofs.First.{done-none, none-done}
+use Rattle.answers.proofs.First.{done-none, accepts-none, none-accepts}
 use Rattle.links.specs.Record.{greatest, longest, recordSize}
 use Rattle.links.specs.declared.Sender.{Sender}
 use Rattle.plain.specs.Entry.{plainKeys, plainCauses, plainAnswer}
@@ -41,12 +41,17 @@ module _ (x : Sender) (m t : List ℕ) where
 
   pub accepted : (o : ℕ) → Sealable x m t → recordSize (length m) ≤ o → Accepted x m t o
   unfolding sealAnswer
-  accepted o S h = done-none (sealCauses x m t o) _ (sealable-none (drop 4 (sealCauses x m t o)) S (le-ltb o (recordSize (length m)) h, tt))
+  accepted o S h = none-accepts (sealCauses x m t o) _ (sealable-none (drop 4 (sealCauses x m t o)) S (le-ltb o (recordSize (length m)) h, tt))
 
   module _ (o : ℕ) (A : Accepted x m t o) where
     none : NoneOf (sealCauses x m t o)
     unfolding sealAnswer
-    none = none-done (sealCauses x m t o) _ _ A
+    none = accepts-none (sealCauses x m t o) _ tt A
+
+    -- the values returned: the length of the record, and the tape bytes read
+    pub values : sealAnswer x m t o ≡ done (recordSize (length m) ∷ tapeNeed (length m) ∷ [])
+    unfolding sealAnswer
+    values = done-none (sealCauses x m t o) _ none
 
     pub sealable : Sealable x m t
     sealable = none-sealable (drop 4 (sealCauses x m t o)) none

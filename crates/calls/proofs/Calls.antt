@@ -7,7 +7,7 @@ use borrow.Author.Tests.{le-leb, lt-leb, eq-eqb, ne-eqb}
 use Rattle.baksheesh.specs.Baksheesh.{rounds}
 use Rattle.modes.specs.Pieces.{blockCount}
 use Rattle.shares.specs.Tape.{pairSize}
-use Rattle.calls.specs.Calls.{Call, ctr, sub, mac, numberOf, callOf, callCount, keyAt, tapeNeed}
+use Rattle.calls.specs.Calls.{Call, ctr, sub, mac, callNumber, callOf, callCount, keyAt, tapeNeed}
 use Rattle.calls.specs.Demand.{masksOf}
 
 -- 1 to n are CTR's, n + 1 makes the subkeys, n + 2 to 2n + 2 are CMAC's
@@ -28,7 +28,7 @@ call-mac n j = rw (lt-leb (n + 2 + j) n (omega arith), ne-eqb (n + 2 + j) (n + 1
 pub call-last : (n : ℕ) → callOf n (callCount n) ≡ mac n
 call-last n = let e : callCount n ≡ n + 2 + n = omega arith in rw e (call-mac n n)
 
-pub number-call : (n k : ℕ) → 1 ≤ k → numberOf n (callOf n k) ≡ k
+pub number-call : (n k : ℕ) → 1 ≤ k → callNumber n (callOf n k) ≡ k
 unfolding callOf
 number-call n k h = elim (decLe k n) [
   | yes a ↦ rw (le-leb k n a) (omega arith)

@@ -28,7 +28,7 @@ use Rattle.shares.specs.Shares.{Shares, Blocks, join, add, each, only, sharesIn
 use Rattle.shares.specs.Tape.{Reader, pairSize}
 use Rattle.shares.proofs.Shape.{Reads, add-blocks, only-blocks}
 use Rattle.shares.proofs.Joins.{Linear, linear-∘, join-add, join-only, join-zeros, join-masksAt, join-map, call-join}
-use Rattle.calls.specs.Calls.{Call, ctr, sub, mac, numberOf, callCount, ofKey, keyAt, callAt, tapeNeed}
+use Rattle.calls.specs.Calls.{Call, ctr, sub, mac, callNumber, callCount, ofKey, keyAt, callAt, tapeNeed}
 use Rattle.calls.specs.Sealed.{cut, completed, keyShares, run, ctrOut, subkey, macBlock, chain, macIn, inputOf, tagShares, ciphertext, sealedRecord}
 use Rattle.calls.specs.Plain.{plainInput}
 use Rattle.calls.specs.Demand.{Formed, joinedKE, joinedKM}
@@ -116,10 +116,10 @@ module _ (x : Sender) (m : List ℕ) (M : Reader) (F : Formed x) (b : Bytes m) (
       given sub = refl
       given (mac j) = refl
 
-  run-join : (c : Call) {s : Shares} → Blocks s → numberOf n c ≤ callCount n → join (run x m M c s) ≡ encrypt (ofKey KE KM c) (join s)
+  run-join : (c : Call) {s : Shares} → Blocks s → callNumber n c ≤ callCount n → join (run x m M c s) ≡ encrypt (ofKey KE KM c) (join s)
   unfolding run
   run-join c {s} p k =
-      call-join M (callAt (numberOf n c)) (key-blocks x m M F b c low) p (λ q l. h q (omega arith))
+      call-join M (callAt (callNumber n c)) (key-blocks x m M F b c low) p (λ q l. h q (omega arith))
       ∙ ap (λ (z : List ℕ). encrypt z (join s)) (key-join c)
 
   -- ---- CTR
@@ -185,7 +185,7 @@ module _ (x : Sender) (m : List ℕ) (M : Reader) (F : Formed x) (b : Bytes m) (
       once true = join-map doubled-linear made blocks ∙ ap doubled zero-join
       once false = join-map (linear-∘ doubled-linear doubled-linear) made blocks ∙ ap (λ (l : List ℕ). doubled (doubled l)) zero-join
 
-  chain-join : (j : ℕ) → j ≤ n → join (chain x m M j) ≡ Cmac.chain (encrypt KM) whole j
+  chain-join : (j : ℕ) → j ≤ n → join (chain x m M j) ≡ Cmac.chain (encrypt KM) zeros whole j
   unfolding chain Cmac.chain
   chain-join zero l = join-zeros
   chain-join (suc j) l =
@@ -208,7 +208,7 @@ module _ (x : Sender) (m : List ℕ) (M : Reader) (F : Formed x) (b : Bytes m) (
 
   -- ---- the inputs of all calls, and the tag
 
-  pub input-join : (c : Call) → numberOf n c ≤ callCount n → join (inputOf x m M c) ≡ plainInput KE KM (x .number) (x .last + 1) m c
+  pub input-join : (c : Call) → callNumber n c ≤ callCount n → join (inputOf x m M c) ≡ plainInput KE KM (x .number) (x .last + 1) m c
   unfolding inputOf plainInput
   input-join (ctr j) l = join-only (counter-block _ _ j)
   input-join sub l = join-zeros
@@ -220,7 +220,7 @@ module _ (x : Sender) (m : List ℕ) (M : Reader) (F : Formed x) (b : Bytes m) (
       let e : n ≡ macCount whole - 1 = omega (arith, macCount-behind (counter 0) text counter-size, crypted-length (ke-block F) (km-block F) (x .number) (x .last + 1) m) in
       run-join (mac n) (macIn-blocks x m M F b n low) (omega arith)
       ∙ ap (encrypt KM) (macIn-join n (omega arith) ∙ rw (eq-eqb n n refl))
-      ∙ ap (λ (k : ℕ). encrypt KM (Cmac.chain (encrypt KM) whole k ⊕ lastBlock (encrypt KM) (piece k whole))) e
+      ∙ ap (λ (k : ℕ). encrypt KM (Cmac.chain (encrypt KM) zeros whole k ⊕ lastBlock (encrypt KM) (piece k whole))) e
 
   pub record-join : sealedRecord x m M ≡ plainRecord KE KM (x .number) (x .last + 1) m
   unfolding sealedRecord plainRecord

@@ -5,4 +5,7 @@ pub mod Joins
 pub mod Accepted
 pub mod Lanes
 pub mod OneTape
-pub mod Demand
+pub mod Total
+pub mod Right
+pub mod ProbeProof
+pub mod Used

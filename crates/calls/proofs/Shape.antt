@@ -21,7 +21,7 @@ use Rattle.links.specs.declared.Sender.{Sender}
 use Rattle.shares.specs.Shares.{Index, Shares, Blocks, sharesIn}
 use Rattle.shares.specs.Tape.{Reader, pairSize}
 use Rattle.shares.proofs.Shape.{Reads, three-blocks, add-blocks, only-blocks, join-block, masksAt-blocks, call-blocks}
-use Rattle.calls.specs.Calls.{Call, ctr, sub, mac, numberOf, ofKey, keyAt, callAt}
+use Rattle.calls.specs.Calls.{Call, ctr, sub, mac, callNumber, ofKey, keyAt, callAt}
 use Rattle.calls.specs.Sealed.{cut, completed, count, keyShares, run, ctrOut, subkey, macBlock, chain, macIn, inputOf}
 use Rattle.calls.specs.Demand.{Formed, joinedKE, joinedKM}
 use Rattle.calls.proofs.Calls.{key-low}
@@ -80,7 +80,7 @@ module _ (x : Sender) (m : List ℕ) (M : Reader) (F : Formed x) (b : Bytes m) w
 
   pub run-blocks : (c : Call) {s : Shares} → Blocks s → Reads M (2 * pairSize) → Blocks (run x m M c s)
   unfolding run
-  run-blocks c p h = call-blocks M (callAt (numberOf (count x m M) c)) (key-blocks c h) p
+  run-blocks c p h = call-blocks M (callAt (callNumber (count x m M) c)) (key-blocks c h) p
 
   pub ctrOut-blocks : (j : ℕ) → Reads M (2 * pairSize) → Blocks (ctrOut x m M j)
   unfolding ctrOut

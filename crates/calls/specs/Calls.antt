@@ -12,10 +12,10 @@ pub data Call : Type 0 where
   sub : Call
   mac : ℕ → Call
 
-abbrev pub numberOf : ℕ → Call → ℕ
-numberOf n (ctr j) = 1 + j
-numberOf n sub = n + 1
-numberOf n (mac j) = n + 2 + j
+abbrev pub callNumber : ℕ → Call → ℕ
+callNumber n (ctr j) = 1 + j
+callNumber n sub = n + 1
+callNumber n (mac j) = n + 2 + j
 
 -- the call with a number
 unfoldable pub callOf : ℕ → ℕ → Call

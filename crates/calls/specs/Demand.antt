@@ -1,21 +1,22 @@
 -- The words of the statements on sealing: what is accepted, what a probed lane shows, and what its parts join to.
 -- Assumes nothing.
 use mathlib.Core.Path.{_≡_}
-use mathlib.Core.List.{List, [], _∷_}
-use Prim.Native.Nat.{ℕ, _+_, _-_, _*_, _%_, _^_, _<_}
+use mathlib.Core.List.{List}
+use Prim.Native.Nat.{ℕ, _+_, _-_, _*_, _%_, _^_, _≤_, _<_}
 use lib.ListN.{length, replicate}
 use Rattle.blocks.specs.Bytes.{Bytes, _⊕_}
 use Rattle.blocks.specs.Put.{part}
-use Rattle.answers.specs.Answer.{done}
+use Rattle.answers.specs.Answer.{Accepts}
+use Rattle.baksheesh.specs.Baksheesh.{rounds}
 use Rattle.modes.specs.Pieces.{blockCount}
-use Rattle.links.specs.Record.{numberSize, sequenceSize, recordSize}
+use Rattle.links.specs.Record.{numberSize, sequenceSize}
 use Rattle.links.specs.declared.Sender.{Sender}
 use Rattle.shares.specs.Shares.{join, sharesIn}
 use Rattle.shares.specs.Tape.{pairSize}
 use Rattle.shares.specs.OneTape.{Alike, laneMask}
-use Rattle.calls.specs.Calls.{callOf, keyAt, callAt, tapeNeed}
+use Rattle.calls.specs.Calls.{callOf, callCount, keyAt, callAt}
 use Rattle.calls.specs.Plain.{plainState, plainKey}
-use Rattle.calls.specs.Entry.{sealAnswer, indexOf, laneSize, reportOutput}
+use Rattle.calls.specs.Entry.{sealAnswer, sealLink, sealShares, sealOutput, indexOf, laneSize, reportOutput}
 
 -- what the fields of a sending link can hold
 pub record Formed (x : Sender) : Type 0 where
@@ -26,9 +27,20 @@ pub record Formed (x : Sender) : Type 0 where
   pub km-size : length (x .km) ≡ 48
   pub km-bytes : Bytes (x .km)
 
--- sealing the message m on the link x with the tape t and room for o bytes is accepted
+-- sealing the message m on the link x with the tape t and room for o bytes is accepted, whatever values are returned
 abbrev pub Accepted : Sender → List ℕ → List ℕ → ℕ → Type 0
-Accepted x m t o = sealAnswer x m t o ≡ done (recordSize (length m) ∷ tapeNeed (length m) ∷ [])
+Accepted x m t o = Accepts (sealAnswer x m t o)
+
+-- an accepted sealing: its link, message, tape and output, all holding what they can
+pub record AcceptedSealing : Type 0 where
+  pub link : Sender
+  pub message : List ℕ
+  pub tape : List ℕ
+  pub out : List ℕ
+  pub formed : Formed link
+  pub message-bytes : Bytes message
+  pub tape-bytes : Bytes tape
+  pub accepted : Accepted link message tape (length out)
 
 -- the keys that the link's shares join to: KE, then KM
 abbrev pub joinedKE : Sender → List ℕ
@@ -48,14 +60,23 @@ masksOf k r = callAt k + pairSize * (r - 1)
 abbrev pub keyMaskOf : ℕ → ℕ → ℕ → ℕ
 keyMaskOf n k i = laneMask (keyAt (callOf n k)) (indexOf i)
 
--- w is a tape of bytes as long as t that differs from it at most in the round's 32 mask bytes and in the lane's 16 key mask bytes;
--- sealing m′ on y with it is accepted, and the report shows the lane that it shows of m on x with t
-pub record SameLane (x : Sender) (m t : List ℕ) (y : Sender) (m′ : List ℕ) (o k r i : ℕ) (w : List ℕ) : Type 0 where
-  pub as-long : length w ≡ length t
+-- w is a tape of bytes, as long as that of the sealing S, that differs from it at most in the round's 32 mask bytes and in the lane's 16
+-- key mask bytes; with it the sealing T is accepted, and its report shows the lane that the report of S shows
+pub record SameLane (S T : AcceptedSealing) (k r i : ℕ) (w : List ℕ) : Type 0 where
+  pub as-long : length w ≡ length (S .tape)
   pub all-bytes : Bytes w
-  pub elsewhere : Alike (keyMaskOf (blockCount (length m)) k i) (masksOf k r) w t
-  pub accepted : Accepted y m′ w o
-  pub same : shown y m′ w k r i ≡ shown x m t k r i
+  pub elsewhere : Alike (keyMaskOf (blockCount (length (S .message))) k i) (masksOf k r) w (S .tape)
+  pub accepted : Accepted (T .link) (T .message) w (length (T .out))
+  pub same : shown (T .link) (T .message) w k r i ≡ shown (S .link) (S .message) (S .tape) k r i
+
+-- sealing m on x with the output o does the same with the tape u as with the tape t
+pub record SameSealing (x : Sender) (m o t u : List ℕ) : Type 0 where
+  pub answer : sealAnswer x m u (length o) ≡ sealAnswer x m t (length o)
+  pub link : sealLink x m u (length o) ≡ sealLink x m t (length o)
+  pub tag-shares : sealShares x m u (length o) ≡ sealShares x m t (length o)
+  pub output : sealOutput x m u o ≡ sealOutput x m t o
+  pub lanes : (k r i : ℕ) → 1 ≤ k → k ≤ callCount (blockCount (length m)) → 1 ≤ r → r ≤ rounds → i < 3
+      → shown x m u k r i ≡ shown x m t k r i
 
 -- the three lanes of round r of call k
 pub record Joined (x : Sender) (m t : List ℕ) (k r : ℕ) : Type 0 where

@@ -3,3 +3,4 @@ pub mod Sealed
 pub mod Plain
 pub mod Entry
 pub mod Demand
+pub mod Used

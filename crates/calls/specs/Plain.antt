@@ -23,7 +23,7 @@ module _ (ke km : List ℕ) (n s : ℕ) (m : List ℕ) where
   plainInput (ctr j) = counterBlock n s j
   plainInput sub = zeros
   plainInput (mac j) =
-      chain (encrypt km) text j ⊕ cond (eqb j (blockCount (length m))) (lastBlock (encrypt km) (piece j text)) (piece j text)
+      chain (encrypt km) zeros text j ⊕ cond (eqb j (blockCount (length m))) (lastBlock (encrypt km) (piece j text)) (piece j text)
 
   -- on entering round r of call k, and the key that is added at that round's end; calls and rounds from 1
   unfoldable pub plainState : ℕ → ℕ → List ℕ

@@ -13,7 +13,7 @@ use Rattle.links.specs.declared.Sender.{Sender}
 use Rattle.shares.specs.Shares.{Index, Shares, join, add, each, only, sharesIn}
 use Rattle.shares.specs.Tape.{Reader, masksAt}
 use Rattle.shares.specs.Call as Shared
-use Rattle.calls.specs.Calls.{Call, ctr, sub, mac, numberOf, callOf, ofKey, keyAt, callAt}
+use Rattle.calls.specs.Calls.{Call, ctr, sub, mac, callNumber, callOf, ofKey, keyAt, callAt}
 
 -- the first w bytes of a block, zeros behind them
 abbrev pub cut : ℕ → List ℕ → List ℕ
@@ -47,7 +47,7 @@ module _ (x : Sender) (m : List ℕ) (M : Reader) where
 
   -- what a call makes of input shares
   unfoldable pub run : Call → Shares → Shares
-  run c input = Shared.call (keyShares c) input M (callAt (numberOf count c))
+  run c input = Shared.call (keyShares c) input M (callAt (callNumber count c))
 
   -- the output shares of CTR's call for block j: its input is the counter block, in share 0
   unfoldable pub ctrOut : ℕ → Shares

@@ -1,2 +1,3 @@
 pub mod Keying
 pub mod Record
+pub mod Fields

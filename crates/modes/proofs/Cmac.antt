@@ -11,7 +11,6 @@ use Rattle.blocks.specs.Bytes.{Bytes, Block, _⊕_, zeros}
 use Rattle.blocks.proofs.Xor.{⊕-block, zeros-block, bytes-append, bytes-cons, bytes-replicate}
 use Rattle.modes.specs.Pieces.{blockCount, piece}
 use Rattle.modes.specs.Cmac.{padded, macCount, subkey₁, subkey₂, lastBlock, chain, cmac}
-use Rattle.modes.specs.Chain.{chainFrom}
 use Rattle.modes.proofs.Pieces.{macCount-behind, piece-le, piece-bytes, piece-block, piece-front, piece-behind}
 use Rattle.modes.proofs.Doubled.{doubled-block}
 
@@ -34,43 +33,38 @@ module _ (E : List ℕ → List ℕ) where
 
   -- ---- the chain, turn by turn
 
-  pub chainFrom-zero : (x m : List ℕ) → chainFrom E x m 0 ≡ x
-  unfolding chainFrom
-  chainFrom-zero x m = refl
+  pub chain-zero : (x m : List ℕ) → chain E x m 0 ≡ x
+  unfolding chain
+  chain-zero x m = refl
 
-  pub chainFrom-more : (x m : List ℕ) (n : ℕ) → chainFrom E x m (n + 1) ≡ E (chainFrom E x m n ⊕ piece n m)
-  unfolding chainFrom
-  chainFrom-more x m n = rw add-one
-
-  pub chain-from : (m : List ℕ) (n : ℕ) → chain E m n ≡ chainFrom E zeros m n
-  unfolding chain chainFrom
-  chain-from m zero = refl
-  chain-from m (suc n) = ap (λ (z : List ℕ). E (z ⊕ piece n m)) (chain-from m n)
+  pub chain-more : (x m : List ℕ) (n : ℕ) → chain E x m (n + 1) ≡ E (chain E x m n ⊕ piece n m)
+  unfolding chain
+  chain-more x m n = rw add-one
 
   -- ---- a whole block in front
 
   module _ (c t : List ℕ) (size : length c ≡ 16) where
-    pub chain-front : (n : ℕ) → chain E (c ++ t) (suc n) ≡ chainFrom E (E (zeros ⊕ c)) t n
-    unfolding chain chainFrom
-    chain-front zero = ap (λ (p : List ℕ). E (zeros ⊕ p)) (piece-front c t size)
-    chain-front (suc n) = ap₂ (λ (x p : List ℕ). E (x ⊕ p)) (chain-front n) (piece-behind n c t size)
+    pub chain-front : (x : List ℕ) (n : ℕ) → chain E x (c ++ t) (suc n) ≡ chain E (E (x ⊕ c)) t n
+    unfolding chain
+    chain-front x zero = ap (λ (p : List ℕ). E (x ⊕ p)) (piece-front c t size)
+    chain-front x (suc n) = ap₂ (λ (y p : List ℕ). E (y ⊕ p)) (chain-front x n) (piece-behind n c t size)
 
     -- nothing behind it
     pub cmac-alone : length t ≡ 0 → cmac E (c ++ t) ≡ E (zeros ⊕ lastBlock E c)
     unfolding cmac chain
     cmac-alone e =
         let k : macCount (c ++ t) - 1 ≡ 0 = omega (arith, macCount-behind c t size) in
-        ap (λ (n : ℕ). E (chain E (c ++ t) n ⊕ lastBlock E (piece n (c ++ t)))) k
+        ap (λ (n : ℕ). E (chain E zeros (c ++ t) n ⊕ lastBlock E (piece n (c ++ t)))) k
         ∙ ap (λ (p : List ℕ). E (zeros ⊕ lastBlock E p)) (piece-front c t size)
 
     -- k blocks and the last behind it
     pub cmac-front : (k : ℕ) → blockCount (length t) ≡ k + 1
-        → cmac E (c ++ t) ≡ E (chainFrom E (E (zeros ⊕ c)) t k ⊕ lastBlock E (piece k t))
+        → cmac E (c ++ t) ≡ E (chain E (E (zeros ⊕ c)) t k ⊕ lastBlock E (piece k t))
     unfolding cmac
     cmac-front k e =
         let l : macCount (c ++ t) - 1 ≡ suc k = omega (arith, macCount-behind c t size) in
-        ap (λ (n : ℕ). E (chain E (c ++ t) n ⊕ lastBlock E (piece n (c ++ t)))) l
-        ∙ ap₂ (λ (x p : List ℕ). E (x ⊕ lastBlock E p)) (chain-front k) (piece-behind k c t size)
+        ap (λ (n : ℕ). E (chain E zeros (c ++ t) n ⊕ lastBlock E (piece n (c ++ t)))) l
+        ∙ ap₂ (λ (x p : List ℕ). E (x ⊕ lastBlock E p)) (chain-front zeros k) (piece-behind k c t size)
 
   -- ---- blocks
 
@@ -91,19 +85,16 @@ module _ (E : List ℕ → List ℕ) where
   ]
 
   module _ (keeps : (x : List ℕ) → Block x → Block (E x)) where
-    pub chainFrom-block : (x m : List ℕ) → Block x → Bytes m → (n : ℕ) → 16 * n ≤ length m → Block (chainFrom E x m n)
-    unfolding chainFrom
-    chainFrom-block x m w b zero h = w
-    chainFrom-block x m w b (suc n) h =
-        keeps (chainFrom E x m n ⊕ piece n m)
-        (⊕-block (chainFrom-block x m w b n (omega arith)) (piece-block n m b (omega arith)))
-
-    pub chain-block : (m : List ℕ) → Bytes m → (n : ℕ) → 16 * n ≤ length m → Block (chain E m n)
-    chain-block m b n h = rw chain-from (chainFrom-block zeros m zeros-block b n h)
+    pub chain-block : (x m : List ℕ) → Block x → Bytes m → (n : ℕ) → 16 * n ≤ length m → Block (chain E x m n)
+    unfolding chain
+    chain-block x m w b zero h = w
+    chain-block x m w b (suc n) h =
+        keeps (chain E x m n ⊕ piece n m)
+        (⊕-block (chain-block x m w b n (omega arith)) (piece-block n m b (omega arith)))
 
     pub cmac-block : (m : List ℕ) → Bytes m → Block (cmac E m)
     unfolding cmac
     cmac-block m b =
         let k : ℕ = macCount m - 1 in
-        keeps (chain E m k ⊕ lastBlock E (piece k m))
-        (⊕-block (chain-block m b k (omega arith)) (last-block (piece k m) (piece-bytes k m b) (piece-le k m)))
+        keeps (chain E zeros m k ⊕ lastBlock E (piece k m))
+        (⊕-block (chain-block zeros m zeros-block b k (omega arith)) (last-block (piece k m) (piece-bytes k m b) (piece-le k m)))

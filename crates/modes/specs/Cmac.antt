@@ -43,10 +43,10 @@ module _ (E : List ℕ → List ℕ) where
   unfoldable pub lastBlock : List ℕ → List ℕ
   lastBlock p = cond (eqb (length p) 16) (subkey₁ ⊕ p) (subkey₂ ⊕ padded p)
 
-  -- the chain over the first n blocks
-  unfoldable pub chain : List ℕ → ℕ → List ℕ
-  chain m zero = zeros
-  chain m (suc n) = E (chain m n ⊕ piece n m)
+  -- the chain from a start, over the first n blocks
+  unfoldable pub chain : List ℕ → List ℕ → ℕ → List ℕ
+  chain start m zero = start
+  chain start m (suc n) = E (chain start m n ⊕ piece n m)
 
   unfoldable pub cmac : List ℕ → List ℕ
-  cmac m = E (chain m (macCount m - 1) ⊕ lastBlock (piece (macCount m - 1) m))
+  cmac m = E (chain zeros m (macCount m - 1) ⊕ lastBlock (piece (macCount m - 1) m))

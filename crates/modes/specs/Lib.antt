@@ -1,4 +1,3 @@
 pub mod Pieces
 pub mod Ctr
 pub mod Cmac
-pub mod Chain

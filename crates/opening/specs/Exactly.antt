@@ -17,7 +17,8 @@ pub record Formed (x : Receiver) : Type 0 where
   pub ke : Block (x .ke)
   pub km : Block (x .km)
 
--- opening the record r on the link x, with the output o, accepts: it returns the message m and the link y
+-- what an accepted opening of the record r on the link x, with the output o, returns and leaves: the length of the message m, that
+-- message in the output, and the link y
 pub record Opens (x : Receiver) (r o m : List ℕ) (y : Receiver) : Type 0 where
   pub answer : openAnswer x r (length o) ≡ done (length m ∷ [])
   pub link : openLink x r (length o) ≡ y

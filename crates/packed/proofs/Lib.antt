@@ -1,4 +1,1 @@
-pub mod Words
-pub mod Moves
-pub mod Constants
-pub mod Bytes
+pub mod Cells

@@ -1,19 +1,18 @@
 // BAKSHEESH on a block in packed form, and on its bytes.
-pub mod form;
 pub mod steps;
 
-use form::pack;
-use form::unpack;
-use steps::ROUNDS;
-use steps::add;
 use steps::inv_round;
-use steps::rotate;
 use steps::rotate_all;
 use steps::rotate_back;
 use steps::round;
+use words::form::pack;
+use words::form::unpack;
+use words::steps::ROUNDS;
+use words::steps::add;
+use words::steps::rotate;
 ghost use mathlib.Core.Path.{_≡_};
 ghost use Rattle.baksheesh.specs.Baksheesh.{encrypt, decrypt};
-ghost use Rattle.packed.specs.Packed.{unpacked};
+ghost use Rattle.words.specs.Words.{unpacked};
 
 pub fn encrypt_words(key: [u32; 4], block: [u32; 4]) -> [u32; 4]
     ensures { λ r. ⌜ unpacked r ≡ encrypt (unpacked key) (unpacked block) ⌝ }

@@ -12,8 +12,8 @@ use Rattle.blocks.specs.Bytes.{_⊕_, zeros}
 use Rattle.blocks.specs.Put.{part, put}
 use Rattle.blocks.proofs.Xor.{⊕-zero}
 use Rattle.blocks.proofs.Parts.{part-length, part-part, put-zeros}
-use Rattle.packed.specs.Packed.{unpacked}
-use Rattle.packed.proofs.Words.{unpacked-block}
+use Rattle.words.specs.Words.{unpacked}
+use Rattle.words.proofs.Words.{unpacked-block}
 use Rattle.modes.specs.Pieces.{piece}
 use Rattle.modes.specs.Cmac.{doubled}
 use Rattle.links.specs.Record.{counterBlock}

@@ -13,7 +13,7 @@ use Rattle.blocks.specs.Bytes.{zeros}
 use Rattle.blocks.specs.Put.{part, put}
 use Rattle.blocks.proofs.Parts.{put-none, put-start, put-length, put-put}
 use Rattle.baksheesh.specs.Baksheesh.{rounds}
-use Rattle.packed.specs.Packed.{unpacked}
+use Rattle.words.specs.Words.{unpacked}
 use Rattle.modes.specs.Pieces.{blockCount}
 use Rattle.links.specs.Record.{longest}
 use Rattle.links.specs.declared.Sender.{Sender}
@@ -28,7 +28,7 @@ use Rattle.shares.proofs.Packed.{zero-words, shares-same}
 use Rattle.path.specs.declared.Watch.{Watch}
 use Rattle.path.specs.declared.Seen.{Seen}
 use Rattle.path.specs.declared.Walk.{Walk}
-use Rattle.calls.specs.Calls.{Call, ctr, sub, mac, numberOf, callOf, callCount, ofKey, keyAt, callAt}
+use Rattle.calls.specs.Calls.{Call, ctr, sub, mac, callNumber, callOf, callCount, ofKey, keyAt, callAt}
 use Rattle.calls.specs.Sealed.{lastKey, textBlock, counter, keyShares, run, ctrOut, subkey, macBlock, chain, inputOf, tagShares}
 use Rattle.path.specs.Walk.{looked, Shown, Stepped, Walked, Ready, outsSize, outputs, OutsHold, blockShares}
 
@@ -83,7 +83,7 @@ module _ (x : Sender) (m : List ℕ) (M : Reader) where
     walked-at {w = w} e W = subst (λ (j : ℕ). Walked x m M a j w) e W
 
     -- the call c comes next: it leads behind itself, and its output is what it makes of its input
-    module _ (k : ℕ) (c : Call) (e : callOf n (numberOf n c) ≡ c) (number : numberOf n c ≡ k + 1) {key input : Shares} (ek : key ≡ keyShares x m M c)
+    module _ (k : ℕ) (c : Call) (e : callOf n (callNumber n c) ≡ c) (number : callNumber n c ≡ k + 1) {key input : Shares} (ek : key ≡ keyShares x m M c)
         (ei : input ≡ inputOf x m M c) {w r : Walk} (W : Walked x m M a k w) (S : Stepped key input M a w r) where
       walked-more : Walked x m M a (k + 1) r
       walked-more = record {

@@ -1,19 +1,19 @@
 // The path of a sealing through its shared calls: sealing and the lane report both take it.
 use links::Sender;
-use packed::form::pack;
-use packed::form::unpack;
-use packed::steps::add;
 use shares::Triple;
 use shares::add_shares;
 use shares::only;
 use shares::pack_shares;
 use shares::unpack_shares;
+use words::form::pack;
+use words::form::unpack;
+use words::steps::add;
 ghost use mathlib.Core.Path.{_≡_};
 ghost use Prim.Native.Nat.{_+_, _-_, _*_, _≤_, _<_};
 ghost use lib.ListN.{length};
 ghost use Rattle.blocks.specs.Put.{part, put};
 ghost use Rattle.baksheesh.specs.Baksheesh.{rounds};
-ghost use Rattle.packed.specs.Packed.{unpacked};
+ghost use Rattle.words.specs.Words.{unpacked};
 ghost use Rattle.modes.specs.Pieces.{blockCount, piece};
 ghost use Rattle.modes.specs.Cmac.{doubled};
 ghost use Rattle.links.specs.Record.{greatest, longest};

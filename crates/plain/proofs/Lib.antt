@@ -1,4 +1,3 @@
 pub mod Sealed
 pub mod Tagging
-pub mod Fields
 pub mod Answers

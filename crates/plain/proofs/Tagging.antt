@@ -8,8 +8,7 @@ use Rattle.blocks.specs.Bytes.{_⊕_, zeros}
 use Rattle.blocks.proofs.Xor.{⊕-block, zero-⊕}
 use Rattle.baksheesh.specs.Baksheesh.{encrypt}
 use Rattle.modes.specs.Pieces.{piece}
-use Rattle.modes.specs.Cmac.{subkey₁, lastBlock}
-use Rattle.modes.specs.Chain.{chainFrom}
+use Rattle.modes.specs.Cmac.{subkey₁, lastBlock, chain}
 use Rattle.modes.proofs.Cmac.{last-whole, subkey₁-block, cmac-alone, cmac-front}
 use Rattle.links.specs.Record.{counterBlock}
 use Rattle.links.proofs.Record.{counter-block}
@@ -27,8 +26,8 @@ module _ (km : List ℕ) (n s : ℕ) (text : List ℕ) where
   k = (length text - 1) / 16
 
   pub tag-last : (length text ≡ 0 → ⊥)
-      → tagOf km n s text ≡ encrypt km (chainFrom (encrypt km) (encrypt km (counterBlock n s 0)) text k ⊕ lastBlock (encrypt km) (piece k text))
+      → tagOf km n s text ≡ encrypt km (chain (encrypt km) (encrypt km (counterBlock n s 0)) text k ⊕ lastBlock (encrypt km) (piece k text))
   tag-last h =
       let front = counter-block n s 0 in
       cmac-front (encrypt km) (counterBlock n s 0) text (front .size) k (omega arith)
-      ∙ ap (λ (x : List ℕ). encrypt km (chainFrom (encrypt km) (encrypt km x) text k ⊕ lastBlock (encrypt km) (piece k text))) (zero-⊕ front)
+      ∙ ap (λ (x : List ℕ). encrypt km (chain (encrypt km) (encrypt km x) text k ⊕ lastBlock (encrypt km) (piece k text))) (zero-⊕ front)

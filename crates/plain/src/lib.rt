@@ -1,17 +1,16 @@
 // Plain sealing: CTR under KE, CMAC under KM, and the record of a message.
 use packed::encrypt_words;
-use packed::form::pack;
-use packed::form::unpack;
-use packed::steps::add;
+use words::form::pack;
+use words::form::unpack;
+use words::steps::add;
 ghost use mathlib.Core.Path.{_≡_};
 ghost use Prim.Native.Nat.{_+_, _-_, _*_, _≤_, _<_};
 ghost use lib.ListN.{length};
 ghost use Rattle.blocks.specs.Put.{put};
 ghost use Rattle.baksheesh.specs.Baksheesh.{encrypt};
-ghost use Rattle.packed.specs.Packed.{unpacked};
+ghost use Rattle.words.specs.Words.{unpacked};
 ghost use Rattle.modes.specs.Pieces.{piece};
-ghost use Rattle.modes.specs.Cmac.{subkey₁, subkey₂, lastBlock};
-ghost use Rattle.modes.specs.Chain.{chainFrom};
+ghost use Rattle.modes.specs.Cmac.{subkey₁, subkey₂, lastBlock, chain};
 ghost use Rattle.links.specs.Record.{longest, recordSize, counterBlock};
 ghost use Rattle.plain.specs.Plain.{crypted, tagOf, plainRecord};
 ghost use Rattle.plain.specs.Entry.{plainSays, plainAnswer, plainOutput};
@@ -76,7 +75,7 @@ fn last_block(key: [u32; 4], text: &[u8], j: usize) -> [u32; 4]
 // The chain from `first` over the text's first n blocks.
 fn chained(key: [u32; 4], first: [u32; 4], text: &[u8], n: usize) -> [u32; 4]
     requires { ⌜ 16 * n ≤ length (now text) ⌝ }
-    ensures { λ r. ⌜ unpacked r ≡ chainFrom (encrypt (unpacked key)) (unpacked first) (now (text .entry)) n ⌝ }
+    ensures { λ r. ⌜ unpacked r ≡ chain (encrypt (unpacked key)) (unpacked first) (now (text .entry)) n ⌝ }
 {
     let mut chain = first;
     for j in 0..n {

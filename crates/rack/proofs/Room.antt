@@ -4,26 +4,23 @@ use mathlib.Core.List.{List, [], _∷_}
 use Prim.Native.Nat.{ℕ, _≤_}
 use native.Mathlib.Omega.{arith}
 use lib.ListN.{length}
-use Rattle.answers.specs.Answer.{done}
-use Rattle.answers.proofs.First.{none-done, done-none, done-values}
+use Rattle.answers.specs.Answer.{done, numberOf}
 use Rattle.links.specs.Record.{longest, recordSize}
 use Rattle.links.specs.declared.Sender.{Sender}
-use Rattle.calls.specs.Calls.{tapeNeed}
-use Rattle.calls.specs.Entry.{sealCauses, sealAnswer}
+use Rattle.calls.specs.Entry.{sealAnswer}
 use Rattle.calls.specs.Demand.{Accepted}
 use Rattle.calls.proofs.Accepted.{sealable, room}
+use Rattle.calls.proofs.Total.{accepted-values}
 use Rattle.sealing.specs.declared.SealAnswer.{SealAnswer}
 use Rattle.sealing.specs.declared.SealAnswer.the-variants.{Sealed}
 use Rattle.sealing.specs.Says.{sealSays}
 
 module _ (x : Sender) (m t : List ℕ) (o n u : ℕ) (e : sealAnswer x m t o ≡ done (n ∷ u ∷ [])) where
   accepted : Accepted x m t o
-  unfolding sealAnswer
-  accepted = done-none (sealCauses x m t o) _ (none-done (sealCauses x m t o) _ _ e)
+  accepted = ap numberOf e
 
   size : recordSize (length m) ≡ n
-  unfolding sealAnswer
-  size = let v : recordSize (length m) ∷ tapeNeed (length m) ∷ [] ≡ n ∷ u ∷ [] = done-values (sealCauses x m t o) _ _ e in cc
+  size = let v = sym (accepted-values x m t o accepted) ∙ e in cc
 
 pub fits : (x : Sender) (m t : List ℕ) {o l n u : ℕ} {a : SealAnswer} → sealSays a ≡ sealAnswer x m t o → a ≡ Sealed n u → l ≡ o
     → (n ≤ l) × (n ≤ recordSize longest)

@@ -1,16 +1,13 @@
 -- What keying a lent link of a size with n bytes of keys returns and leaves. Assumes nothing.
 use mathlib.Core.Path.{_≡_, sym, ap, _∙_}
-use mathlib.Core.Bool.{not}
-use mathlib.Core.List.{List, [], _∷_}
+use mathlib.Core.List.{List, []}
 use Prim.Native.Nat.{ℕ}
-use lib.Dec.{eqb}
 use lib.ListN.{length}
 use borrow.Author.Tests.{eq-eqb, ne-eqb}
-use Rattle.answers.specs.Answer.{Answer, done, refused, _when_, numberOf, ifDone}
-use Rattle.answers.proofs.First.{if-done, if-refused}
+use Rattle.answers.specs.Answer.{Answer, done, refused, numberOf, ifDone}
+use Rattle.answers.proofs.First.{accepts-done, not-accepts, if-done, if-refused}
 use Rattle.links.specs.Links.{keyAnswer}
-use Rattle.rasppuce.specs.Calls.{keyingAnswer}
-use Rattle.rasppuce.proofs.Told.{told-done, told-refused}
+use Rattle.rasppuce.specs.Calls.{keyingCauses, keyingAnswer}
 
 module _ (size n : ℕ) (link keys : List ℕ) where
   abbrev answer : Answer
@@ -34,11 +31,11 @@ module _ (size n : ℕ) (link keys : List ℕ) where
     told = e ∙ ap numberOf same
 
     pub bad-keys : (r ≡ 0 → ⊥) → (x : List ℕ) → Keys x r link
-    bad-keys z x = (told, if-refused (told-refused answer (λ d. z (told ∙ d))) x link)
+    bad-keys z x = (told, if-refused (not-accepts answer (λ d. z (told ∙ d))) x link)
 
     -- the link that came back was stored as its bytes
     pub is-keyed : {A : Type 0} (bytes : A → List ℕ) (x y : A) {next : A} {l : List ℕ} → r ≡ 0 → next ≡ ifDone (keyAnswer n keys) x y → l ≡ bytes next → Keys (bytes x) r l
     unfolding keyingAnswer
     is-keyed bytes x y z en el =
-        let d : answer ≡ done [] = told-done ((1 when not (eqb (length link) size)) ∷ (1 when not (eqb (length keys) n)) ∷ []) [] tt (sym told ∙ z) in
+        let d : answer ≡ done [] = accepts-done (keyingCauses size n link keys) [] tt (sym told ∙ z) in
         (told, el ∙ ap bytes (en ∙ sym (if-done (same ∙ d) x y)) ∙ if-done d (bytes x) link)

@@ -1,6 +1,8 @@
 pub mod Lent
-pub mod Told
 pub mod Keying
 pub mod Opening
 pub mod Sealing
-pub mod Demand
+pub mod Said
+pub mod Total
+pub mod Right
+pub mod ProbeProof

@@ -6,16 +6,16 @@ use Prim.Native.Nat.{ℕ}
 use native.Mathlib.Omega.{arith}
 use lib.Dec.{T, eqb, eqb→eq}
 use lib.ListN.{length}
-use Rattle.answers.specs.Answer.{Answer, done, numberOf}
-use Rattle.answers.proofs.First.{if-done, if-refused}
+use Rattle.answers.specs.Answer.{Answer, done, numberOf, Accepts}
+use Rattle.answers.proofs.First.{accepts-done, not-accepts, if-done, if-refused}
+use Rattle.links.specs.Record.{sequenceIn}
 use Rattle.opening.specs.Receivers.{freshReceiver}
-use Rattle.opening.specs.Open.{messageSize, openCauses, openAnswer, openLink, openOutput}
+use Rattle.opening.specs.Open.{messageSize, openCauses, openAnswer, accepting, openLink, openOutput}
 use Rattle.opening.specs.declared.Receiver.{Receiver}
 use Rattle.rasppuce.specs.Lent.{receiverSize, receiverIn, receiverBytes}
 use Rattle.rasppuce.specs.Calls.{openedLink}
-use Rattle.rasppuce.proofs.Told.{told-done, told-refused}
 
-keyed-in : (b : Bool) (x : Receiver) (r : List ℕ) (o : ℕ) → numberOf (openAnswer (cond b x freshReceiver) r o) ≡ 0 → T b
+keyed-in : (b : Bool) (x : Receiver) (r : List ℕ) (o : ℕ) → Accepts (openAnswer (cond b x freshReceiver) r o) → T b
 unfolding openAnswer
 keyed-in true x r o e = tt
 keyed-in false x r o e = absurd (omega arith)
@@ -43,8 +43,9 @@ module _ (l r o : List ℕ) {x : Receiver} (ex : x ≡ receiverIn l) {y : Receiv
   pub opened : n ≡ 0 → {l′ : List ℕ} → l′ ≡ receiverBytes y → Opens l′
   unfolding openAnswer
   opened z el =
-      let d : answer ≡ done (messageSize r ∷ []) = told-done (openCauses (receiverIn l) r (length o)) _ tt (sym told ∙ z) in
-      (told, (el ∙ ap receiverBytes (e .1 .0 ∙ ap (λ (z : Receiver). openLink z r (length o)) ex) ∙ if-done d _ l, written))
+      let d : answer ≡ done (messageSize r ∷ []) = accepts-done (openCauses (receiverIn l) r (length o)) _ tt (sym told ∙ z) in
+      let link = e .1 .0 ∙ ap (λ (z : Receiver). openLink z r (length o)) ex ∙ sym (if-done d (accepting (receiverIn l) (sequenceIn r)) (receiverIn l)) in
+      (told, (el ∙ ap receiverBytes link ∙ if-done d _ l, written))
 
   pub not-opened : (n ≡ 0 → ⊥) → Opens l
-  not-opened z = (told, (if-refused (told-refused answer (λ d. z (told ∙ d))) (receiverBytes (openLink (receiverIn l) r (length o))) l, written))
+  not-opened z = (told, (if-refused (not-accepts answer (λ d. z (told ∙ d))) (receiverBytes (accepting (receiverIn l) (sequenceIn r))) l, written))

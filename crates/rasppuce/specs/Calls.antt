@@ -1,25 +1,29 @@
 -- What the C calls answer and leave in the lent bytes. Assumes nothing.
-use mathlib.Core.Bool.{not, cond}
+use mathlib.Core.Bool.{not}
 use mathlib.Core.List.{List, [], _∷_, _++_}
 use Prim.Native.Nat.{ℕ, _+_}
 use lib.Dec.{eqb, ltb}
 use lib.ListN.{length}
 use Rattle.blocks.specs.Number.{bigEndian}
-use Rattle.answers.specs.Answer.{Answer, done, _when_, first, ifDone, output}
+use Rattle.answers.specs.Answer.{Answer, done, Cause, _when_, first, ifDone, output}
+use Rattle.links.specs.Record.{recordSize, sequenceIn}
 use Rattle.links.specs.Links.{senderKeys, senderOf}
 use Rattle.opening.specs.Receivers.{receiverKeys, receiverOf}
-use Rattle.opening.specs.Open.{openAnswer, openLink}
+use Rattle.opening.specs.Open.{openAnswer, accepting}
 use Rattle.shares.specs.Shares.{flat}
 use Rattle.shares.specs.Tape.{at}
 use Rattle.calls.specs.Calls.{tapeNeed}
 use Rattle.calls.specs.Sealed.{tagShares, sealedRecord}
-use Rattle.calls.specs.Entry.{sealAnswer, sealLink}
+use Rattle.calls.specs.Entry.{inputCauses, advanced}
 use Rattle.rasppuce.specs.Lent.{senderSize, receiverSize, senderIn, receiverIn, senderBytes, receiverBytes}
 
 -- ---- keying: 1 for a link slice or key material of another length
 
+abbrev pub keyingCauses : ℕ → ℕ → List ℕ → List ℕ → List Cause
+keyingCauses size n link keys = (1 when not (eqb (length link) size)) ∷ (1 when not (eqb (length keys) n)) ∷ []
+
 unfoldable pub keyingAnswer : ℕ → ℕ → List ℕ → List ℕ → Answer
-keyingAnswer size n link keys = first ((1 when not (eqb (length link) size)) ∷ (1 when not (eqb (length keys) n)) ∷ []) (done [])
+keyingAnswer size n link keys = first (keyingCauses size n link keys) (done [])
 
 abbrev pub senderKeying : List ℕ → List ℕ → Answer
 senderKeying = keyingAnswer senderSize senderKeys
@@ -37,7 +41,7 @@ keyedReceiver link number keys = ifDone (receiverKeying link keys) (receiverByte
 -- ---- opening: the link's bytes at the end
 
 abbrev pub openedLink : List ℕ → List ℕ → ℕ → List ℕ
-openedLink link r o = ifDone (openAnswer (receiverIn link) r o) (receiverBytes (openLink (receiverIn link) r o)) link
+openedLink link r o = ifDone (openAnswer (receiverIn link) r o) (receiverBytes (accepting (receiverIn link) (sequenceIn r))) link
 
 -- ---- sealing, with slices of o bytes for the record and of s for the tag's shares and the tape count
 
@@ -48,16 +52,16 @@ countSize = 4
 abbrev pub sharesSize : ℕ
 sharesSize = 48 + countSize
 
--- the room for the record: a shorter second slice is an output with no room
-abbrev pub roomIn : ℕ → ℕ → ℕ
-roomIn o s = cond (ltb s sharesSize) 0 o
+-- the causes of sealing, and a second slice that is too short
+abbrev pub sealedCauses : List ℕ → List ℕ → List ℕ → ℕ → ℕ → List Cause
+sealedCauses link m t o s = inputCauses (senderIn link) m t ((4 when ltb o (recordSize (length m))) ∷ (4 when ltb s sharesSize) ∷ [])
 
-abbrev pub sealedAnswer : List ℕ → List ℕ → List ℕ → ℕ → ℕ → Answer
-sealedAnswer link m t o s = sealAnswer (senderIn link) m t (roomIn o s)
+unfoldable pub sealedAnswer : List ℕ → List ℕ → List ℕ → ℕ → ℕ → Answer
+sealedAnswer link m t o s = first (sealedCauses link m t o s) (done [])
 
 -- the link's bytes, the record and the second slice at the end
 abbrev pub sealedLink : List ℕ → List ℕ → List ℕ → ℕ → ℕ → List ℕ
-sealedLink link m t o s = ifDone (sealedAnswer link m t o s) (senderBytes (sealLink (senderIn link) m t (roomIn o s))) link
+sealedLink link m t o s = ifDone (sealedAnswer link m t o s) (senderBytes (advanced (senderIn link))) link
 
 abbrev pub recordOutput : List ℕ → List ℕ → List ℕ → List ℕ → List ℕ → List ℕ
 recordOutput link m t o s = output (sealedAnswer link m t (length o) (length s)) (sealedRecord (senderIn link) m (at t)) o

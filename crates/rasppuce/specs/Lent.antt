@@ -28,17 +28,29 @@ flag false = 0
 
 -- ---- the link that bytes say; bytes of another length say one that is not keyed
 
+abbrev pub senderAt : List ℕ → Sender
+senderAt b = record {
+  keyed = eqb (getD b 0 0) 1;
+  number = value (part 1 numberSize b);
+  last = value (part (1 + numberSize) sequenceSize b);
+  ke = part keysAt 48 b;
+  km = part (keysAt + 48) 48 b;
+}
+
 abbrev pub senderIn : List ℕ → Sender
-senderIn b =
-    cond (eqb (length b) senderSize)
-    (record { keyed = eqb (getD b 0 0) 1; number = value (part 1 numberSize b); last = value (part (1 + numberSize) sequenceSize b); ke = part keysAt 48 b; km = part (keysAt + 48) 48 b })
-    freshSender
+senderIn b = cond (eqb (length b) senderSize) (senderAt b) freshSender
+
+abbrev pub receiverAt : List ℕ → Receiver
+receiverAt b = record {
+  keyed = eqb (getD b 0 0) 1;
+  number = value (part 1 numberSize b);
+  last = value (part (1 + numberSize) sequenceSize b);
+  ke = part keysAt 16 b;
+  km = part (keysAt + 16) 16 b;
+}
 
 abbrev pub receiverIn : List ℕ → Receiver
-receiverIn b =
-    cond (eqb (length b) receiverSize)
-    (record { keyed = eqb (getD b 0 0) 1; number = value (part 1 numberSize b); last = value (part (1 + numberSize) sequenceSize b); ke = part keysAt 16 b; km = part (keysAt + 16) 16 b })
-    freshReceiver
+receiverIn b = cond (eqb (length b) receiverSize) (receiverAt b) freshReceiver
 
 -- ---- the bytes that say a link
 

@@ -1,6 +1,6 @@
 // The calls of a host in C: each slice is a pointer and a length, and each call returns 0 or the refusal's number.
-mod receiving;
-mod sending;
+pub mod receiving;
+pub mod sending;
 
 use engines::BlockAnswer;
 use links::KeyAnswer;

@@ -4,8 +4,10 @@ use plain::PlainAnswer;
 use sealing::ReportAnswer;
 use sealing::SealAnswer;
 ghost use mathlib.Core.Path.{_≡_};
+ghost use mathlib.Core.Bool.{cond};
 ghost use mathlib.Core.List.{_++_};
 ghost use Prim.Native.Nat.{_^_, _≤_, _<_};
+ghost use lib.Dec.{ltb};
 ghost use lib.ListN.{length, getD};
 ghost use Rattle.blocks.specs.Number.{bigEndian};
 ghost use Rattle.blocks.specs.Put.{put};
@@ -14,7 +16,7 @@ ghost use Rattle.plain.specs.Entry.{plainSays, plainAnswer, plainOutput};
 ghost use Rattle.calls.specs.Entry.{reportAnswer, reportOutput};
 ghost use Rattle.sealing.specs.Says.{sealSays, reportSays};
 ghost use Rattle.rasppuce.specs.Lent.{senderSize, senderIn, senderBytes};
-ghost use Rattle.rasppuce.specs.Calls.{senderKeying, keyedSender, countSize, sharesSize, roomIn, sealedAnswer, sealedLink, recordOutput, sharesOutput};
+ghost use Rattle.rasppuce.specs.Calls.{senderKeying, keyedSender, countSize, sharesSize, sealedAnswer, sealedLink, recordOutput, sharesOutput};
 
 // ---- the link
 
@@ -94,7 +96,7 @@ fn tape_count(a: SealAnswer) -> usize
 
 // The room for the record: none where the second slice is too short.
 fn room_in(out: usize, shares: usize) -> usize
-    ensures { λ r. ⌜ r ≡ roomIn out shares ⌝ }
+    ensures { λ r. ⌜ r ≡ cond (ltb shares sharesSize) 0 out ⌝ }
 {
     if shares < 52 { 0 } else { out }
 }

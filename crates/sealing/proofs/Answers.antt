@@ -29,7 +29,7 @@ use Rattle.calls.specs.Entry.{inputCauses, sealAnswer, advanced, sealLink, seal
 use Rattle.sealing.specs.Says.{sealSays}
 use Rattle.path.specs.Walk.{Walked, OutsHold}
 use Rattle.sealing.specs.Outgoing.{joinedAt, ciphertextOf}
-use Rattle.calls.proofs.Accepted.{Sealable, accepted}
+use Rattle.calls.proofs.Accepted.{Sealable, accepted, values}
 use Rattle.sealing.proofs.Refusals as Refusals
 use Rattle.path.proofs.Walking.{shares-flat, ctrOut-made}
 
@@ -100,7 +100,7 @@ module _ (x : Sender) (m t o : List ℕ) where
       → p ≡ put 0 (recordOf (x .number) (x .last + 1) (ciphertextOf m outs) (join (sharesIn s))) o
       → Leaves (done (recordSize (length m) ∷ w .used ∷ [])) (advanced x) s p
   sealed S room a w outs s p W tag H es ep =
-      let e = accepted x m t (length o) S room in
+      let e = values x m t (length o) (accepted x m t (length o) S room) in
       let used : w .used ≡ tapeNeed (length m) = omega (arith, W .used) in (
         ap (λ (u : ℕ). done (recordSize (length m) ∷ u ∷ [])) used ∙ sym e,
         (

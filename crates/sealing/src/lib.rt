@@ -1,13 +1,13 @@
 // Shared sealing and the lane report.
 use links::Sender;
-use packed::form::unpack;
-use packed::steps::add;
 use path::Seen;
 use path::Watch;
 use path::run;
 use shares::Triple;
 use shares::pack_shares;
 use shares::unpack_shares;
+use words::form::unpack;
+use words::steps::add;
 ghost use mathlib.Core.Path.{_≡_};
 ghost use Prim.Native.Nat.{_+_, _-_, _*_, _≤_, _<_};
 ghost use lib.ListN.{length, replicate};

@@ -9,11 +9,11 @@ use Rattle.blocks.proofs.Xor.{⊕-assoc, ⊕-comm, ⊕-left-comm, ⊕-self, ⊕
 use Rattle.blocks.proofs.ByBits.{rearranged-block, rearranged-⊕}
 use Rattle.baksheesh.specs.Baksheesh.{rounds, from, permBits, constant, rotated, round, after, encrypt}
 use Rattle.baksheesh.proofs.Steps.{constant-block}
-use Rattle.shares.specs.Shares.{i₀, i₁, i₂, next, isFirst, Shares, Blocks, join, add, each, spread, only}
-use Rattle.shares.specs.Sbox.{sboxShare}
+use Rattle.shares.specs.Shares.{i₀, i₁, i₂, next, Shares, Blocks, join, add, each, spread, only}
+use Rattle.shares.specs.Sbox.{sboxShares}
 use Rattle.shares.specs.Tape.{Reader, pairSize, callSize, masksAt}
-use Rattle.shares.specs.Call.{laneRound, shareRound, state, call, masked, roundKey}
-use Rattle.shares.proofs.Sbox.{sboxShare-block, sboxShare-join}
+use Rattle.shares.specs.Call.{shareRound, state, call, masked, roundKey}
+use Rattle.shares.proofs.Sbox.{sboxShares-blocks, sboxShares-join}
 use Rattle.shares.proofs.Shape.{Reads, join-block, state-blocks, masked-blocks}
 
 -- ---- shares
@@ -75,20 +75,13 @@ rotated-linear n = rearranged-linear _
 -- ---- a round
 
 pub round-join : (n : ℕ) (s k : Shares) → Blocks s → join (shareRound n s k) ≡ round n (join k) (join s)
-unfolding laneRound join
 round-join n s k p =
-    join-add (add moved (only (constant n))) k
+    join-add (add (each permBits (sboxShares s)) (only (constant n))) k
     ∙ ap (λ (l : List ℕ). l ⊕ join k)
-    (join-add moved (only (constant n))
+    (join-add (each permBits (sboxShares s)) (only (constant n))
     ∙ ap₂ _⊕_
-    (join-map permBits-linear boxed (λ i. sboxShare-block _ _ _) ∙ ap permBits (sboxShare-join s p))
+    (join-map permBits-linear (sboxShares s) (sboxShares-blocks s) ∙ ap permBits (sboxShares-join s p))
     (join-only (constant-block n)))
-  where
-    boxed : Shares
-    boxed i = sboxShare (isFirst i) (s (next i)) (s (next (next i)))
-
-    moved : Shares
-    moved = each permBits boxed
 
 -- ---- a call
 

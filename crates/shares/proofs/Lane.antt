@@ -9,7 +9,7 @@ use Rattle.blocks.specs.Bytes.{Block, _⊕_}
 use Rattle.blocks.specs.Put.{part}
 use Rattle.baksheesh.specs.Baksheesh.{rounds, rotated, after}
 use Rattle.shares.specs.Shares.{Index, i₀, i₁, i₂, next, isFirst, Shares, Blocks, join}
-use Rattle.shares.specs.Tape.{Reader, pairSize, callSize}
+use Rattle.shares.specs.Tape.{Reader, pairSize, callSize, masksAt}
 use Rattle.shares.specs.Call.{laneRound, state, call, masked, roundKey, lane}
 use Rattle.shares.specs.OneTape.{roundOnLane}
 use Rattle.shares.proofs.Shape.{Reads, masked-blocks, roundKey-blocks}
@@ -68,7 +68,7 @@ module _ {key input : Shares} (M : Reader) (o n : ℕ) (p : Blocks key) (q : Blo
   keys-join = ap join (fun-ext lane-key) ∙ roundKey-join input M o n p
 
   round-lane : (i : Index) → state key input M o (suc n) i ≡ laneRound n (isFirst i) (masked key input M o n (next i)) (masked key input M o n (next (next i))) (roundKey key input M o n i)
-  unfolding state masked roundKey
+  unfolding state masked roundKey laneRound
   round-lane i₀ = refl
   round-lane i₁ = refl
   round-lane i₂ = refl
@@ -76,6 +76,15 @@ module _ {key input : Shares} (M : Reader) (o n : ℕ) (p : Blocks key) (q : Blo
   -- what the round makes of share i is made of lane i alone
   pub state-lane : (i : Index) → state key input M o (suc n) i ≡ roundOnLane n (isFirst i) (lane key input M o n i)
   state-lane i = round-lane i ∙ sym (λ z. laneRound n (isFirst i) (lane-first i z) (lane-second i z) (lane-key i z))
+
+-- masked again, it stands in the next round's lanes
+pub lane-next : {key input : Shares} (M : Reader) (o n : ℕ) → Blocks key → Blocks input → Reads M (o + pairSize * suc n + pairSize) → (i : Index)
+    → part 0 16 (lane key input M o (suc n) i)
+    ≡ roundOnLane n (isFirst (next i)) (lane key input M o n (next i)) ⊕ masksAt M (o + pairSize * suc n) (next i)
+unfolding masked
+lane-next M o n p q h i =
+    lane-first M o (suc n) p q h i
+    ∙ ap (λ (s : List ℕ). s ⊕ masksAt M (o + pairSize * suc n) (next i)) (state-lane M o n p q (λ a k. h a (omega arith)) (next i))
 
 -- each output share of a call is the last round done on its lane alone
 pub call-lane : {key input : Shares} (M : Reader) (o : ℕ) → Blocks key → Blocks input → Reads M (o + callSize) → (i : Index)

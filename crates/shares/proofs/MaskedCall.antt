@@ -54,3 +54,7 @@ module _ {a o : ℕ} (low : a + pairSize ≤ o) where
       → ExactlyOne (Shows (laneMask a i) (o + pairSize * n) t (laneAt C n (at t) i) (λ w. laneAt D n (at w) i))
   unfolding lane masked roundKey shows met keyed probe
   one-tape C D n t bt fit i = one-tape-at (omega arith) (rotated (suc n)) (rotated-turn (suc n)) (probe C n) (probe D n) t bt fit i
+
+-- what exactly one thing has it also has under other words
+pub one-as : {A : Type 0} {P Q : A → Type 0} → ((a : A) → P a → Q a) → ((a : A) → Q a → P a) → ExactlyOne P → ExactlyOne Q
+one-as f g h = record { one = h .one; holds = f (h .one) (h .holds); only-one = λ a q. h .only-one a (g a q) }

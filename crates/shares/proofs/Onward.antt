@@ -6,7 +6,7 @@ use native.Mathlib.Nat.{add-suc}
 use native.Mathlib.Omega.{arith}
 use Rattle.baksheesh.specs.Baksheesh.{rounds, rotated}
 use Rattle.baksheesh.proofs.Steps.{rotated-zero, rotated-suc}
-use Rattle.packed.proofs.Words.{unpacked-block}
+use Rattle.words.proofs.Words.{unpacked-block}
 use Rattle.blocks.proofs.ByBits.{rearranged-twice}
 use Rattle.shares.specs.declared.Triple.{Triple}
 use Rattle.shares.specs.Shares.{i₀, i₁, i₂, Shares, Blocks, add, each, spread}

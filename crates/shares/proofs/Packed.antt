@@ -14,11 +14,11 @@ use Rattle.blocks.specs.Bits.{bitAt, blockOf, cells}
 use Rattle.blocks.proofs.Xor.{⊕-zero}
 use Rattle.blocks.proofs.ByBits.{cells-same, rearranged-block}
 use Rattle.baksheesh.specs.Baksheesh.{from, permBits, constant}
-use Rattle.packed.specs.Packed.{unpacked}
-use Rattle.packed.proofs.Words.{bit-unpacked, words, ones}
-use Rattle.shares.specs.Shares.{Index, i₀, i₁, i₂, Shares}
+use Rattle.words.specs.Words.{unpacked}
+use Rattle.words.proofs.Words.{bit-unpacked, words, ones}
+use Rattle.shares.specs.Shares.{Index, i₀, i₁, i₂, Shares, three}
 use Rattle.shares.specs.Sbox.{shareBit, sboxShare}
-use Rattle.shares.specs.Call.{laneRound}
+use Rattle.shares.specs.Call.{laneRound, shareRound}
 
 pub ones-if : (one : Bool) (i : ℕ) → i < 32 → bit (cond one 0xffff_ffff 0) i ≡ one
 ones-if true i h = ones i h
@@ -57,6 +57,15 @@ share-words first one e a b =
     (λ i h. simp (bit-xor, bit-and, e i h)) (λ i h. simp (bit-xor, bit-and, e i h)) (λ i h. simp (bit-xor, bit-and)) (λ i h. simp (bit-xor, bit-and))
     ∙ sym (packed-share first a b)
 
+-- two triples of shares are the same if each share is
+pub shares-same : {s t : Shares} → s i₀ ≡ t i₀ → s i₁ ≡ t i₁ → s i₂ ≡ t i₂ → s ≡ t
+shares-same {s} {t} p q r = fun-ext go
+  where
+    go : (i : Index) → s i ≡ t i
+    go i₀ = p
+    go i₁ = q
+    go i₂ = r
+
 -- a round of a lane by its steps, for the first share and for another
 module _ (n : ℕ) (f : Bool) (a b k s r : List ℕ) (moved : s ≡ permBits (sboxShare f a b)) where
   pub lane-first : f ≡ true → r ≡ (s ⊕ constant n) ⊕ k → r ≡ laneRound n f a b k
@@ -69,16 +78,13 @@ module _ (n : ℕ) (f : Bool) (a b k s r : List ℕ) (moved : s ≡ permBits (sb
       e ∙ ap (λ (z : List ℕ). z ⊕ k) (moved ∙ sym (⊕-zero (rearranged-block from (sboxShare f a b))))
       ∙ ap (λ (z : Bool). (permBits (sboxShare f a b) ⊕ cond z (constant n) zeros) ⊕ k) (sym t)
 
+-- a round lane by lane
+pub round-lanes : (n : ℕ) (s k : Shares) {a b c : List ℕ} → a ≡ laneRound n true (s i₁) (s i₂) (k i₀) → b ≡ laneRound n false (s i₂) (s i₀) (k i₁)
+    → c ≡ laneRound n false (s i₀) (s i₁) (k i₂) → three a b c ≡ shareRound n s k
+unfolding laneRound
+round-lanes n s k = shares-same
+
 -- words of zeros
 pub zero-words : unpacked (0 ∷ 0 ∷ 0 ∷ 0 ∷ []) ≡ zeros
 unfolding unpacked cells blockOf bit zeros
 zero-words = refl
-
--- two triples of shares are the same if each share is
-pub shares-same : {s t : Shares} → s i₀ ≡ t i₀ → s i₁ ≡ t i₁ → s i₂ ≡ t i₂ → s ≡ t
-shares-same {s} {t} p q r = fun-ext go
-  where
-    go : (i : Index) → s i ≡ t i
-    go i₀ = p
-    go i₁ = q
-    go i₂ = r

@@ -5,13 +5,13 @@ use mathlib.Core.List.{List}
 use Prim.Native.Nat.{ℕ, zero, suc, _+_, _*_}
 use Rattle.bits.specs.Bit.{_⊻_}
 use Rattle.bits.proofs.Laws.{⊻-assoc, ⊻-comm, ⊻-left-comm, and-⊻, ⊻-and}
-use Rattle.blocks.specs.Bytes.{Block, _⊕_}
+use Rattle.blocks.specs.Bytes.{_⊕_}
 use Rattle.blocks.specs.Bits.{bitAt, cells, eachCell}
 use Rattle.blocks.proofs.ByBits.{isBlock, bit-⊕, blockOf-⊕}
 use Rattle.blocks.proofs.Xor.{⊕-block}
 use Rattle.baksheesh.specs.Baksheesh.{sbox, subCells}
 use Rattle.shares.specs.Shares.{Index, i₀, i₁, i₂, next, isFirst, Shares, Blocks, join}
-use Rattle.shares.specs.Sbox.{form, shareBit, sboxShare}
+use Rattle.shares.specs.Sbox.{form, shareBit, sboxShare, sboxShares}
 
 -- ---- the bit form
 
@@ -53,17 +53,17 @@ bits-join j a b c =
 
 -- ---- blocks
 
-pub sboxShare-block : (first : Bool) (a b : List ℕ) → Block (sboxShare first a b)
+pub sboxShares-blocks : (s : Shares) → Blocks (sboxShares s)
 unfolding sboxShare cells
-sboxShare-block first a b = isBlock _
+sboxShares-blocks s i = isBlock _
 
 cells-⊕ : (g h : ℕ → ℕ → Bool) → cells g ⊕ cells h ≡ cells (λ c j. g c j ⊻ h c j)
 unfolding cells
 cells-⊕ g h = sym (blockOf-⊕ _ _)
 
-pub sboxShare-join : (s : Shares) → Blocks s → join (λ i. sboxShare (isFirst i) (s (next i)) (s (next (next i)))) ≡ subCells (join s)
+pub sboxShares-join : (s : Shares) → Blocks s → join (sboxShares s) ≡ subCells (join s)
 unfolding join sboxShare eachCell
-sboxShare-join s p =
+sboxShares-join s p =
     ap (λ (l : List ℕ). cells (share i₀) ⊕ l) (cells-⊕ (share i₁) (share i₂))
     ∙ cells-⊕ (share i₀) (λ c j. share i₁ c j ⊻ share i₂ c j)
     ∙ ap cells (fun-ext (λ c. fun-ext (λ j. bits-join j (x i₀ c) (x i₁ c) (x i₂ c)

@@ -1,16 +1,15 @@
 -- Every share of a call is a block. Assumes nothing.
-use mathlib.Core.Bool.{Bool, true, false, cond}
 use mathlib.Core.List.{List}
 use Prim.Native.Nat.{ℕ, zero, suc, _+_, _*_, _≤_}
 use native.Mathlib.Omega.{arith}
-use Rattle.blocks.specs.Bytes.{Block, zeros}
+use Rattle.blocks.specs.Bytes.{Block}
 use Rattle.blocks.proofs.Xor.{⊕-block, zeros-block}
 use Rattle.blocks.proofs.ByBits.{rearranged-block}
-use Rattle.baksheesh.specs.Baksheesh.{rounds, constant, rotated}
+use Rattle.baksheesh.specs.Baksheesh.{rounds, rotated}
 use Rattle.baksheesh.proofs.Steps.{constant-block}
 use Rattle.shares.specs.Shares.{i₀, i₁, i₂, Shares, Blocks, three, join, add, each, spread, only}
 use Rattle.shares.specs.Tape.{Reader, pairSize, masksAt}
-use Rattle.shares.specs.Call.{laneRound, shareRound, state, call, masked, roundKey}
+use Rattle.shares.specs.Call.{shareRound, state, call, masked, roundKey}
 
 -- a tape gives blocks below o
 abbrev pub Reads : Reader → ℕ → Type 0
@@ -41,16 +40,8 @@ masksAt-blocks M o h = spread-blocks (h _ (omega arith)) (h _ (omega arith))
 
 -- ---- a round
 
-pub laneRound-block : (n : ℕ) (first : Bool) (a b : List ℕ) {k : List ℕ} → Block k → Block (laneRound n first a b k)
-unfolding laneRound
-laneRound-block n first a b p = ⊕-block (⊕-block (rearranged-block _ _) (constants first)) p
-  where
-    constants : (first : Bool) → Block (cond first (constant n) zeros)
-    constants true = constant-block n
-    constants false = zeros-block
-
 pub shareRound-blocks : (n : ℕ) (s : Shares) {k : Shares} → Blocks k → Blocks (shareRound n s k)
-shareRound-blocks n s p = three-blocks (laneRound-block n _ _ _ (p i₀)) (laneRound-block n _ _ _ (p i₁)) (laneRound-block n _ _ _ (p i₂))
+shareRound-blocks n s p = add-blocks (add-blocks (λ i. rearranged-block _ _) (only-blocks (constant-block n))) p
 
 -- ---- a call
 

@@ -4,21 +4,20 @@ use mathlib.Core.List.{List, _++_}
 use Prim.Native.Nat.{ℕ, zero, suc, _+_, _*_}
 use Rattle.blocks.specs.Bytes.{_⊕_, zeros}
 use Rattle.baksheesh.specs.Baksheesh.{rounds, permBits, constant, rotated}
-use Rattle.shares.specs.Shares.{Index, i₀, i₁, i₂, next, isFirst, Shares, three, add, each}
-use Rattle.shares.specs.Sbox.{sboxShare}
+use Rattle.shares.specs.Shares.{Index, next, Shares, add, each, only}
+use Rattle.shares.specs.Sbox.{sboxShare, sboxShares}
 use Rattle.shares.specs.Tape.{Reader, pairSize, masksAt}
 
 -- ---- a round
 
--- what round n + 1 makes of a share, from its lane alone: the next two shares a and b, and the round key's share k;
--- the constants go into the first share
+-- what round n + 1 makes of three masked shares under the round key's shares: the shared S-box, the bit move on each share, the
+-- constants into share 0, the key's shares into theirs
+abbrev pub shareRound : ℕ → Shares → Shares → Shares
+shareRound n s k = add (add (each permBits (sboxShares s)) (only (constant n))) k
+
+-- what it makes of one share, the first one or another, from its lane alone: the next two shares a and b, and the round key's share k
 unfoldable pub laneRound : ℕ → Bool → List ℕ → List ℕ → List ℕ → List ℕ
 laneRound n first a b k = (permBits (sboxShare first a b) ⊕ cond first (constant n) zeros) ⊕ k
-
--- what round n + 1 makes of three masked shares under the round key's shares
-abbrev pub shareRound : ℕ → Shares → Shares → Shares
-shareRound n s k =
-    three (laneRound n (isFirst i₀) (s i₁) (s i₂) (k i₀)) (laneRound n (isFirst i₁) (s i₂) (s i₀) (k i₁)) (laneRound n (isFirst i₂) (s i₀) (s i₁) (k i₂))
 
 -- ---- a call, of key shares and input shares, whose masks begin at o on the tape
 

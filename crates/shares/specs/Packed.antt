@@ -2,7 +2,7 @@
 use mathlib.Core.Path.{_≡_}
 use Prim.Native.Nat.{ℕ, zero, suc, _+_, _-_, _*_}
 use Rattle.baksheesh.specs.Baksheesh.{rotated}
-use Rattle.packed.specs.Packed.{unpacked}
+use Rattle.words.specs.Words.{unpacked}
 use Rattle.shares.specs.declared.Triple.{Triple}
 use Rattle.shares.specs.declared.Run.{Run}
 use Rattle.shares.specs.declared.Called.{Called}

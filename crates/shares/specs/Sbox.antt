@@ -4,6 +4,7 @@ use mathlib.Core.List.{List}
 use Prim.Native.Nat.{ℕ, zero, suc, _+_, _*_}
 use Rattle.bits.specs.Bit.{_⊻_}
 use Rattle.blocks.specs.Bits.{bitAt, cells}
+use Rattle.shares.specs.Shares.{next, isFirst, Shares}
 
 -- the S-box's bit form over what stands for bit e of a cell (x e), for the product of bits e and f (p e f) and for 1
 abbrev pub form : ℕ → (ℕ → Bool) → (ℕ → ℕ → Bool) → Bool → Bool
@@ -20,3 +21,7 @@ shareBit first j a b = form j a (λ e f. (a e && a f) ⊻ (a e && b f) ⊻ (b e 
 -- an output share, the first one or another, of the next two shares
 unfoldable pub sboxShare : Bool → List ℕ → List ℕ → List ℕ
 sboxShare first a b = cells (λ c j. shareBit first j (λ e. bitAt a (4 * c + e)) (λ e. bitAt b (4 * c + e)))
+
+-- all three output shares: share i of the two after it, with 1 in share 0
+abbrev pub sboxShares : Shares → Shares
+sboxShares s i = sboxShare (isFirst i) (s (next i)) (s (next (next i)))

@@ -1,16 +1,16 @@
 // BAKSHEESH on three XOR shares in packed form.
-use packed::form::pack;
-use packed::form::unpack;
-use packed::steps::add;
-use packed::steps::add_constants;
-use packed::steps::perm_bits;
-use packed::steps::rotate;
+use words::form::pack;
+use words::form::unpack;
+use words::steps::add;
+use words::steps::add_constants;
+use words::steps::perm_bits;
+use words::steps::rotate;
 ghost use mathlib.Core.Path.{_≡_};
 ghost use mathlib.Core.Bool.{cond};
 ghost use Prim.Native.Nat.{_+_, _-_, _*_, _≤_, _<_};
 ghost use lib.ListN.{length};
 ghost use Rattle.baksheesh.specs.Baksheesh.{rounds, rotated};
-ghost use Rattle.packed.specs.Packed.{unpacked};
+ghost use Rattle.words.specs.Words.{unpacked};
 ghost use Rattle.shares.specs.Shares.{spread, each, sharesIn, flat, add as addShares, only as onlyShare};
 ghost use Rattle.shares.specs.Sbox.{sboxShare};
 ghost use Rattle.shares.specs.Tape.{at, pairSize, callSize};

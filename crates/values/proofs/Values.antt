@@ -1,11 +1,15 @@
 -- The values hold: antt computes each row. Assumes nothing.
 use mathlib.Core.Path.{refl}
 use Rattle.bits.specs.Bit.{bit}
-use Rattle.blocks.specs.Bytes.{_⊕_}
-use Rattle.blocks.specs.Bits.{blockOf, bitAt, rearranged}
+use Rattle.blocks.specs.Bytes.{_⊕_, zeros}
+use Rattle.blocks.specs.Bits.{blockOf, bitAt, cells, rearranged, eachCell}
+use Rattle.blocks.specs.Number.{bigEndian}
+use Rattle.baksheesh.specs.Baksheesh.{constant}
 use Rattle.modes.specs.Cmac.{doubled}
+use Rattle.links.specs.Record.{counterBlock, recordOf}
+use Rattle.shares.specs.Sbox.{sboxShare}
 use Rattle.values.specs.Values.{rows, Hold}
 
 pub values-hold : Hold rows
-unfolding bit blockOf bitAt rearranged doubled _⊕_
-values-hold = (refl, (refl, (refl, (refl, (refl, (refl, (refl, (refl, (refl, (refl, (refl, (refl, tt))))))))))))
+unfolding bit blockOf bitAt cells rearranged eachCell constant doubled sboxShare counterBlock recordOf bigEndian _⊕_ zeros
+values-hold = (refl, (refl, (refl, (refl, (refl, (refl, (refl, (refl, (refl, (refl, (refl, (refl, (refl, (refl, (refl, tt)))))))))))))))

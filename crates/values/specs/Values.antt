@@ -1,27 +1,34 @@
 -- Values to hold: each row has what the definitions give, and the value that the scope states. Assumes nothing.
 use mathlib.Core.Path.{_≡_}
-use mathlib.Core.Bool.{Bool, true, false}
 use mathlib.Core.List.{List, [], _∷_, _++_}
-use Prim.Native.Nat.{ℕ}
+use Prim.Native.Nat.{ℕ, _+_, _*_}
 use lib.Dec.{eqb}
 use lib.ListN.{replicate}
-use Rattle.bits.specs.Bit.{bit, number}
+use Rattle.blocks.specs.Bytes.{zeros}
 use Rattle.blocks.specs.Bits.{blockOf}
-use Rattle.baksheesh.specs.Baksheesh.{sbox, invSbox, cellOf, permBits, rotated}
+use Rattle.baksheesh.specs.Baksheesh.{subCells, invSubCells, permBits, rotated}
 use Rattle.modes.specs.Cmac.{doubled}
-use Rattle.shares.specs.Sbox.{shareBit}
+use Rattle.links.specs.Record.{counterBlock, recordOf}
+use Rattle.shares.specs.Shares.{sharesIn, flat}
+use Rattle.shares.specs.Sbox.{sboxShares}
+use Rattle.shares.specs.Call.{shareRound}
 use Rattle.calls.specs.Calls.{tapeNeed}
 
 -- the block with only bit i set
 abbrev pub onlyBit : ℕ → List ℕ
 onlyBit i = blockOf (eqb i)
 
--- the cells that the shared S-box makes of three shares of a cell
-abbrev pub shareCell : Bool → ℕ → ℕ → ℕ
-shareCell first a b = number 4 (λ j. shareBit first j (bit a) (bit b))
+-- the block of 32 times the cell x
+abbrev pub ofCell : ℕ → List ℕ
+ofCell x = replicate 16 (16 * x + x)
 
-abbrev pub shareCells : ℕ → ℕ → ℕ → List ℕ
-shareCells a b c = shareCell true b c ∷ shareCell false c a ∷ shareCell false a b ∷ []
+-- three shares of a block, one behind the other, each of 32 times one cell
+abbrev pub ofCells : ℕ → ℕ → ℕ → List ℕ
+ofCells a b c = ofCell a ++ (ofCell b ++ ofCell c)
+
+-- what the shared S-box makes of such shares
+abbrev pub shared : ℕ → ℕ → ℕ → List ℕ
+shared a b c = flat (sboxShares (sharesIn (ofCells a b c)))
 
 infix 20 _is_
 pub data Row : Type 0 where
@@ -30,13 +37,15 @@ pub data Row : Type 0 where
 abbrev pub rows : List Row
 rows =
     -- the S-box and its inverse
-    ((cellOf sbox 0x0 ∷ []) is (0x3 ∷ []))
-    ∷ ((cellOf sbox 0xf ∷ []) is (0x1 ∷ []))
-    ∷ ((cellOf invSbox 0x1 ∷ []) is (0xf ∷ []))
+    (subCells (ofCell 0x0) is ofCell 0x3)
+    ∷ (subCells (ofCell 0xf) is ofCell 0x1)
+    ∷ (invSubCells (ofCell 0x1) is ofCell 0xf)
     -- the shared S-box
-    ∷ (shareCells 0x0 0x0 0x0 is (0x3 ∷ 0x0 ∷ 0x0 ∷ []))
-    ∷ (shareCells 0x1 0x0 0x0 is (0x3 ∷ 0x0 ∷ 0x3 ∷ []))
-    ∷ (shareCells 0x1 0x4 0x0 is (0xb ∷ 0x0 ∷ 0xe ∷ []))
+    ∷ (shared 0x0 0x0 0x0 is ofCells 0x3 0x0 0x0)
+    ∷ (shared 0x1 0x0 0x0 is ofCells 0x3 0x0 0x3)
+    ∷ (shared 0x1 0x4 0x0 is ofCells 0xb 0x0 0xe)
+    -- the first round on shares and key shares of zeros: its constant, bit 13, goes into share 0
+    ∷ (flat (shareRound 0 (λ i. zeros) (λ i. zeros)) is (replicate 14 0x33 ++ (0x13 ∷ 0x33 ∷ replicate 32 0x00)))
     -- the bit move
     ∷ (permBits (onlyBit 4) is onlyBit 96)
     ∷ (permBits (onlyBit 115) is onlyBit 127)
@@ -45,6 +54,9 @@ rows =
     ∷ (rotated 1 (onlyBit 0) is onlyBit 127)
     -- CMAC's doubling
     ∷ (doubled (0x80 ∷ replicate 15 0x00) is (replicate 15 0x00 ++ (0x87 ∷ [])))
+    -- counter block 6 and a record of the link number 0x01020304 and the sequence number 5
+    ∷ (counterBlock 0x01020304 5 6 is (1 ∷ 2 ∷ 3 ∷ 4 ∷ 0 ∷ 0 ∷ 0 ∷ 0 ∷ 0 ∷ 0 ∷ 0 ∷ 5 ∷ 0 ∷ 0 ∷ 0 ∷ 6 ∷ []))
+    ∷ (recordOf 0x01020304 5 (0xaa ∷ []) (replicate 16 0xbb) is (1 ∷ 2 ∷ 3 ∷ 4 ∷ 0 ∷ 0 ∷ 0 ∷ 5 ∷ 0xaa ∷ replicate 16 0xbb))
     -- the tape need of a message of 0, 1, 16, 17 and 256 bytes
     ∷ ((tapeNeed 0 ∷ tapeNeed 1 ∷ tapeNeed 16 ∷ tapeNeed 17 ∷ tapeNeed 256 ∷ []) is (2304 ∷ 4544 ∷ 4544 ∷ 6784 ∷ 38144 ∷ []))
     ∷ []

@@ -7,7 +7,7 @@ use Prim.Native.Nat.{ℕ, suc, _-_, _≤_}
 use native.Mathlib.Omega.{arith}
 use Rattle.baksheesh.specs.Baksheesh.{rounds, rotated, invRound, before, decrypt}
 use Rattle.baksheesh.proofs.Steps.{rotated-back}
-use Rattle.packed.specs.Packed.{unpacked}
+use Rattle.words.specs.Words.{unpacked}
 use Rattle.packed.proofs.decrypt_words.Statement.{statement}
 use Rattle.packed.proofs.decrypt_words.Tie as tie
 

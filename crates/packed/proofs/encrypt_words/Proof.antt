@@ -8,8 +8,8 @@ use native.Mathlib.Omega.{arith}
 use native.Mathlib.Numerals.{add-one}
 use Rattle.baksheesh.specs.Baksheesh.{rounds, rotated, round, after, encrypt}
 use Rattle.baksheesh.proofs.Steps.{rotated-zero, rotated-suc, rotated-back}
-use Rattle.packed.specs.Packed.{unpacked}
-use Rattle.packed.proofs.Words.{unpacked-block}
+use Rattle.words.specs.Words.{unpacked}
+use Rattle.words.proofs.Words.{unpacked-block}
 use Rattle.packed.proofs.encrypt_words.Statement.{statement}
 use Rattle.packed.proofs.encrypt_words.Tie as tie
 

@@ -9,8 +9,8 @@ use Rattle.blocks.specs.Bytes.{_⊕_}
 use Rattle.blocks.specs.Put.{put}
 use Rattle.baksheesh.specs.Baksheesh.{encrypt}
 use Rattle.baksheesh.proofs.Inverse.{encrypt-block}
-use Rattle.packed.specs.Packed.{unpacked}
-use Rattle.packed.proofs.Words.{unpacked-block}
+use Rattle.words.specs.Words.{unpacked}
+use Rattle.words.proofs.Words.{unpacked-block}
 use Rattle.modes.specs.Pieces.{piece}
 use Rattle.modes.proofs.Pieces.{piece-length}
 use Rattle.modes.proofs.Stream.{written, written-none, written-length, written-more, written-all}

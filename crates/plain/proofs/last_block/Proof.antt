@@ -6,7 +6,7 @@ use lib.ListN.{length}
 use borrow.Author.Needs.{needs}
 use Rattle.blocks.specs.Bytes.{_⊕_}
 use Rattle.baksheesh.specs.Baksheesh.{encrypt}
-use Rattle.packed.specs.Packed.{unpacked}
+use Rattle.words.specs.Words.{unpacked}
 use Rattle.modes.specs.Pieces.{piece}
 use Rattle.modes.specs.Cmac.{subkey₁, subkey₂}
 use Rattle.modes.proofs.Pieces.{piece-length}

@@ -9,9 +9,9 @@ use mir.Val.{Fits}
 use mir.Syntax.{w8}
 use Rattle.blocks.specs.Bytes.{Block}
 use Rattle.blocks.specs.Put.{part, put}
+use Rattle.links.proofs.Fields.{text-there, record-put}
 use Rattle.plain.specs.Plain.{crypted, tagOf, plainRecord}
 use Rattle.plain.proofs.Sealed.{crypted-length}
-use Rattle.plain.proofs.Fields.{text-there, record-put}
 use Rattle.plain.proofs.put_record.Statement.{statement}
 use Rattle.plain.proofs.put_record.Tie as tie
 

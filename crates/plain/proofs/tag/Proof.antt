@@ -3,7 +3,7 @@ use mathlib.Core.Path.{_≡_, sym, ap, ap₂, _∙_}
 use borrow.Author.Needs.{needs}
 use Rattle.blocks.specs.Bytes.{_⊕_}
 use Rattle.baksheesh.specs.Baksheesh.{encrypt}
-use Rattle.packed.specs.Packed.{unpacked}
+use Rattle.words.specs.Words.{unpacked}
 use Rattle.modes.specs.Cmac.{subkey₁}
 use Rattle.links.specs.Record.{counterBlock}
 use Rattle.plain.proofs.Tagging.{tag-empty, tag-last}

@@ -4,7 +4,7 @@ use mathlib.Core.List.{List}
 use Prim.Native.Nat.{ℕ}
 use borrow.Author.Needs.{needs}
 use Rattle.blocks.specs.Bytes.{_⊕_}
-use Rattle.packed.specs.Packed.{unpacked}
+use Rattle.words.specs.Words.{unpacked}
 use Rattle.shares.specs.Shares.{join}
 use Rattle.sealing.proofs.joined.Statement.{statement}
 use Rattle.sealing.proofs.joined.Tie as tie

@@ -5,7 +5,7 @@ use native.Mathlib.Omega.{arith}
 use lib.ListN.{length}
 use borrow.Author.Needs.{needs}
 use Rattle.blocks.specs.Put.{put}
-use Rattle.plain.proofs.Fields.{record-put}
+use Rattle.links.proofs.Fields.{record-put}
 use Rattle.sealing.specs.Outgoing.{ciphertextOf}
 use Rattle.sealing.proofs.Stream.{ciphertext-length}
 use Rattle.sealing.proofs.put_record.Statement.{statement}

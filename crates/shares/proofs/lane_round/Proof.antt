@@ -5,7 +5,7 @@ use Prim.Native.Nat.{ℕ}
 use borrow.Author.Needs.{needs}
 use Rattle.blocks.specs.Bytes.{_⊕_}
 use Rattle.baksheesh.specs.Baksheesh.{permBits}
-use Rattle.packed.specs.Packed.{unpacked}
+use Rattle.words.specs.Words.{unpacked}
 use Rattle.shares.specs.Sbox.{sboxShare}
 use Rattle.shares.proofs.Packed.{lane-first, lane-other}
 use Rattle.shares.proofs.lane_round.Statement.{statement}

@@ -5,7 +5,7 @@ use lib.ListN.{replicate}
 use borrow.Author.Needs.{needs}
 use Rattle.blocks.specs.Put.{put}
 use Rattle.blocks.proofs.Parts.{put-three}
-use Rattle.packed.proofs.Words.{unpacked-block}
+use Rattle.words.proofs.Words.{unpacked-block}
 use Rattle.shares.proofs.unpack_shares.Statement.{statement}
 use Rattle.shares.proofs.unpack_shares.Tie as tie
 

@@ -1,7 +1,7 @@
 -- `inv_perm_bits` meets its contract: a test for each word of where its bits come from. Assumes nothing.
 use borrow.Author.Needs.{needs}
 use Rattle.bits.proofs.Linear.{xored, shl, shr, through}
-use Rattle.packed.proofs.Moves.{inputs, rearranges}
+use Rattle.words.proofs.Moves.{inputs, rearranges}
 use Rattle.packed.proofs.steps.inv_perm_bits.Statement.{statement}
 use Rattle.packed.proofs.steps.inv_perm_bits.Tie as tie
 

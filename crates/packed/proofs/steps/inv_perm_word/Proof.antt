@@ -1,7 +1,7 @@
 -- `inv_perm_word` meets its contract: one test of what its swaps do to each bit. Assumes nothing.
 use borrow.Author.Needs.{needs}
 use Rattle.bits.proofs.Linear.{moved}
-use Rattle.packed.proofs.Moves.{alone, swap}
+use Rattle.words.proofs.Moves.{alone, swap}
 use Rattle.packed.proofs.steps.inv_perm_word.Statement.{statement}
 use Rattle.packed.proofs.steps.inv_perm_word.Tie as tie
 

@@ -3,7 +3,8 @@ use borrow.Author.Needs.{needs}
 use mathlib.Core.Path.{sym, _∙_}
 use Rattle.bits.proofs.Laws.{bit-xor, bit-and}
 use Rattle.baksheesh.specs.Baksheesh.{invSbox}
-use Rattle.packed.proofs.Words.{words, ones, packed-cells}
+use Rattle.words.proofs.Words.{words, ones}
+use Rattle.packed.proofs.Cells.{packed-cells}
 use Rattle.packed.proofs.steps.inv_sub_cells.Statement.{statement}
 use Rattle.packed.proofs.steps.inv_sub_cells.Tie as tie
 

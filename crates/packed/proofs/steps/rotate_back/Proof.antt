@@ -1,7 +1,7 @@
 -- `rotate_back` meets its contract: a test for each word of where its bits come from. Assumes nothing.
 use borrow.Author.Needs.{needs}
 use Rattle.bits.proofs.Linear.{xored, shl, shr}
-use Rattle.packed.proofs.Moves.{inputs, rearranges}
+use Rattle.words.proofs.Moves.{inputs, rearranges}
 use Rattle.packed.proofs.steps.rotate_back.Statement.{statement}
 use Rattle.packed.proofs.steps.rotate_back.Tie as tie
 

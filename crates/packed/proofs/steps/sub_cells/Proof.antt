@@ -9,7 +9,8 @@ use Rattle.bits.specs.Bit.{bit, _⊻_}
 use Rattle.bits.proofs.Laws.{bit-xor, bit-and}
 use Rattle.bits.proofs.Test.{four-bits}
 use Rattle.baksheesh.specs.Baksheesh.{sbox}
-use Rattle.packed.proofs.Words.{words, ones, packed-cells}
+use Rattle.words.proofs.Words.{words, ones}
+use Rattle.packed.proofs.Cells.{packed-cells}
 use Rattle.packed.proofs.steps.sub_cells.Statement.{statement}
 use Rattle.packed.proofs.steps.sub_cells.Tie as tie
 

@@ -1,0 +1,103 @@
+-- When sealing and the report are accepted, what they return then, and that each refusal has exactly its cause and changes nothing.
+-- Assumes nothing.
+use mathlib.Core.Path.{_≡_, refl, sym}
+use mathlib.Core.Bool.{true}
+use mathlib.Core.List.{List, [], _∷_}
+use mathlib.Core.Logic.{_↔_}
+use Prim.Native.Nat.{ℕ, _+_, _^_, _≤_, _<_}
+use native.Mathlib.Decide.{decLt}
+use native.Mathlib.Omega.{arith}
+use lib.ListN.{length, replicate, length-replicate}
+use Rattle.blocks.specs.Bytes.{Bytes}
+use Rattle.blocks.specs.Put.{put}
+use Rattle.blocks.proofs.Parts.{part-length, part-bytes}
+use Rattle.answers.specs.Answer.{done, refused, FirstOf}
+use Rattle.answers.proofs.First.{if-refused, refused-exactly}
+use Rattle.links.specs.Record.{numberSize, sequenceSize, greatest, longest, recordSize}
+use Rattle.links.specs.Links.{senderKeys, senderOf}
+use Rattle.links.specs.declared.Sender.{Sender}
+use Rattle.shares.specs.Tape.{at}
+use Rattle.calls.specs.Calls.{tapeNeed}
+use Rattle.calls.specs.Sealed.{sealedRecord, laneOf}
+use Rattle.calls.specs.Entry.{sealCauses, sealAnswer, sealLink, advanced, sealOutput, reportCauses, reportAnswer, reportOutput, indexOf}
+use Rattle.calls.specs.Demand.{Formed, Accepted, AcceptedSealing}
+use Rattle.calls.proofs.Accepted.{accepted, values, sealable, room}
+
+-- ---- accepted
+
+-- sealing is accepted exactly where the link is keyed and has a number left, the message has at most 256 bytes, and tape and output are
+-- long enough
+pub accepted-exactly : (x : Sender) (m t : List ℕ) (o : ℕ) → Accepted x m t o
+    ↔ ((x .keyed ≡ true) × (x .last ≡ greatest → ⊥) × (length m ≤ longest) × (tapeNeed (length m) ≤ length t) × (recordSize (length m) ≤ o))
+accepted-exactly x m t o = (
+  (λ A. let S = sealable x m t o A in (S .keyed, S .left, S .small, S .long, room x m t o A)),
+  (λ h. accepted x m t o (record { keyed = h .0; left = h .1; small = h .2; long = h .3 }) (h .4)),
+)
+
+-- an accepted sealing returns the length of the record and the tape bytes read
+pub accepted-values : (x : Sender) (m t : List ℕ) (o : ℕ) → Accepted x m t o
+    → sealAnswer x m t o ≡ done (recordSize (length m) ∷ tapeNeed (length m) ∷ [])
+accepted-values = values
+
+-- ---- links hold what they can
+
+-- keying with 96 bytes makes such a link, and sealing keeps it so
+pub keyed-formed : (n : ℕ) (keys : List ℕ) → n < 256 ^ numberSize → length keys ≡ senderKeys → Bytes keys → Formed (senderOf n keys)
+keyed-formed n keys h e b = record {
+  number = h;
+  last = omega arith;
+  ke-size = part-length 0 48 keys (omega arith);
+  ke-bytes = part-bytes 0 48 keys b;
+  km-size = part-length 48 48 keys (omega arith);
+  km-bytes = part-bytes 48 48 keys b;
+}
+
+pub advanced-formed : (x : Sender) (m t : List ℕ) (o : ℕ) → Formed x → Accepted x m t o → Formed (advanced x)
+advanced-formed x m t o F A =
+    let fits = F .last in
+    let small : x .last + 1 < 256 ^ sequenceSize =
+    elim (decLt (x .last) greatest) [ yes l ↦ omega arith | no l ↦ absurd (sealable x m t o A .left (omega arith)) ] in
+    record { number = F .number; last = small; ke-size = F .ke-size; ke-bytes = F .ke-bytes; km-size = F .km-size; km-bytes = F .km-bytes }
+
+-- for every such link that is keyed and has a number left, every message of at most 256 bytes and every tape long enough there is an
+-- accepted sealing
+pub sealing-exists : (x : Sender) (m t : List ℕ) → Formed x → Bytes m → Bytes t
+    → x .keyed ≡ true → (x .last ≡ greatest → ⊥) → length m ≤ longest → tapeNeed (length m) ≤ length t
+    → (S : AcceptedSealing) × (S .link ≡ x) × (S .message ≡ m) × (S .tape ≡ t)
+sealing-exists x m t F b bt keyed left small long =
+    let o : List ℕ = replicate (recordSize (length m)) 0 in (
+      record {
+        link = x;
+        message = m;
+        tape = t;
+        out = o;
+        formed = F;
+        message-bytes = b;
+        tape-bytes = bt;
+        accepted = accepted-exactly x m t (length o) .1 (keyed, left, small, long, simp length-replicate (omega arith));
+      },
+      refl,
+      refl,
+      refl,
+    )
+
+-- ---- each refusal number has exactly its cause, in their order
+
+pub seal-refused-exactly : (x : Sender) (m t : List ℕ) (o n : ℕ) → sealAnswer x m t o ≡ refused n ↔ FirstOf n (sealCauses x m t o)
+unfolding sealAnswer
+seal-refused-exactly x m t o n = refused-exactly n (sealCauses x m t o) _
+
+pub report-refused-exactly : (x : Sender) (m t : List ℕ) (k r i o n : ℕ)
+    → reportAnswer x m t k r i o ≡ refused n ↔ FirstOf n (reportCauses x m t k r i o)
+unfolding reportAnswer
+report-refused-exactly x m t k r i o n = refused-exactly n (reportCauses x m t k r i o) []
+
+-- ---- a refusal leaves the link and every lent byte as they came
+
+pub refused-unchanged : (x : Sender) (m t o : List ℕ) (n : ℕ) → sealAnswer x m t (length o) ≡ refused n
+    → (sealLink x m t (length o) ≡ x) × (sealOutput x m t o ≡ o)
+refused-unchanged x m t o n e = (sym (if-refused e (advanced x) x), sym (if-refused e (put 0 (sealedRecord x m (at t)) o) o))
+
+pub unreported-unchanged : (x : Sender) (m t : List ℕ) (k r i : ℕ) (o : List ℕ) (n : ℕ) → reportAnswer x m t k r i (length o) ≡ refused n
+    → reportOutput x m t k r i o ≡ o
+unreported-unchanged x m t k r i o n e = sym (if-refused e (put 0 (laneOf x m (at t) k r (indexOf i)) o) o)

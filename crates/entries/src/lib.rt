@@ -1,0 +1,146 @@
+// Every entry, called on any slices, numbers and links. No function here has a `requires`, so an entry with one that some
+// argument breaks is refused here.
+use engines::BlockAnswer;
+use links::Sender;
+use links::SenderKeying;
+use opening::Opening;
+use opening::Receiver;
+use opening::ReceiverKeying;
+use plain::PlainAnswer;
+use sealing::ReportAnswer;
+use sealing::Sealing;
+
+// ---- block calls
+
+pub fn encrypt_table(key: &[u8], input: &[u8], output: &mut [u8]) -> BlockAnswer {
+    engines::encrypt_table(key, input, output)
+}
+
+pub fn encrypt_packed(key: &[u8], input: &[u8], output: &mut [u8]) -> BlockAnswer {
+    engines::encrypt_packed(key, input, output)
+}
+
+pub fn decrypt_table(key: &[u8], input: &[u8], output: &mut [u8]) -> BlockAnswer {
+    engines::decrypt_table(key, input, output)
+}
+
+pub fn decrypt_packed(key: &[u8], input: &[u8], output: &mut [u8]) -> BlockAnswer {
+    engines::decrypt_packed(key, input, output)
+}
+
+// ---- links
+
+pub fn fresh_sender() -> Sender {
+    links::Sender::fresh()
+}
+
+pub fn key_sender(link: Sender, number: u32, keys: &[u8]) -> SenderKeying {
+    links::Sender::key(link, number, keys)
+}
+
+pub fn fresh_receiver() -> Receiver {
+    opening::Receiver::fresh()
+}
+
+pub fn key_receiver(link: Receiver, number: u32, keys: &[u8]) -> ReceiverKeying {
+    opening::Receiver::key(link, number, keys)
+}
+
+// ---- sealing, report and opening
+
+pub fn seal_plain(
+    keys: &[u8],
+    number: u32,
+    sequence: u32,
+    message: &[u8],
+    out: &mut [u8],
+) -> PlainAnswer {
+    plain::seal(keys, number, sequence, message, out)
+}
+
+pub fn seal(link: Sender, message: &[u8], tape: &[u8], out: &mut [u8]) -> Sealing {
+    sealing::seal(link, message, tape, out)
+}
+
+// The link goes by value into `lent::seal_through`, which lends it to `lent::seal_next`.
+pub fn seal_lent(link: Sender, message: &[u8], tape: &[u8], out: &mut [u8]) -> Sealing {
+    lent::seal_through(link, message, tape, out)
+}
+
+pub fn report(
+    link: Sender,
+    message: &[u8],
+    tape: &[u8],
+    call: u32,
+    round: u32,
+    lane: u32,
+    out: &mut [u8],
+) -> ReportAnswer {
+    sealing::report(link, message, tape, call, round, lane, out)
+}
+
+pub fn open(link: Receiver, sealed: &[u8], out: &mut [u8]) -> Opening {
+    opening::Receiver::open(link, sealed, out)
+}
+
+// ---- C calls
+
+pub fn c_encrypt_table(key: &[u8], input: &[u8], output: &mut [u8]) -> u32 {
+    rasppuce::rasppuce_encrypt_table(key, input, output)
+}
+
+pub fn c_encrypt_packed(key: &[u8], input: &[u8], output: &mut [u8]) -> u32 {
+    rasppuce::rasppuce_encrypt_packed(key, input, output)
+}
+
+pub fn c_decrypt_table(key: &[u8], input: &[u8], output: &mut [u8]) -> u32 {
+    rasppuce::rasppuce_decrypt_table(key, input, output)
+}
+
+pub fn c_decrypt_packed(key: &[u8], input: &[u8], output: &mut [u8]) -> u32 {
+    rasppuce::rasppuce_decrypt_packed(key, input, output)
+}
+
+pub fn c_key_sender(link: &mut [u8], number: u32, keys: &[u8]) -> u32 {
+    rasppuce::sending::rasppuce_key_sender(link, number, keys)
+}
+
+pub fn c_key_receiver(link: &mut [u8], number: u32, keys: &[u8]) -> u32 {
+    rasppuce::receiving::rasppuce_key_receiver(link, number, keys)
+}
+
+pub fn c_seal(
+    link: &mut [u8],
+    message: &[u8],
+    tape: &[u8],
+    out: &mut [u8],
+    shares: &mut [u8],
+) -> u32 {
+    rasppuce::sending::rasppuce_seal(link, message, tape, out, shares)
+}
+
+pub fn c_report(
+    link: &[u8],
+    message: &[u8],
+    tape: &[u8],
+    call: u32,
+    round: u32,
+    lane: u32,
+    out: &mut [u8],
+) -> u32 {
+    rasppuce::sending::rasppuce_report(link, message, tape, call, round, lane, out)
+}
+
+pub fn c_seal_plain(
+    keys: &[u8],
+    number: u32,
+    sequence: u32,
+    message: &[u8],
+    out: &mut [u8],
+) -> u32 {
+    rasppuce::sending::rasppuce_seal_plain(keys, number, sequence, message, out)
+}
+
+pub fn c_open(link: &mut [u8], sealed: &[u8], out: &mut [u8]) -> u32 {
+    rasppuce::receiving::rasppuce_open(link, sealed, out)
+}
