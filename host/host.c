@@ -2,53 +2,18 @@
  * A rack's host in C: keys a pair of links, seals by shares and plainly, opens, and meets every
  * refusal once. It checks all that it sees; the exit status is 1 if anything surprised it.
  *
- *     host                      does all that twice: with every slice before a page that can't be
- *                               touched, and with every slice after one
+ *     host                      does all that three times: with every slice before a page that can't
+ *                               be touched, with every slice after one, and at odd addresses
  *     host before, host behind  reads one byte outside a slice, so that SIGSEGV has to end it
  */
 #define _DEFAULT_SOURCE /* for MAP_ANONYMOUS */
 #include "rasppuce.h"
+#include "check.h"
 
 #include <stdio.h>
 #include <stdlib.h>
 #include <string.h>
 #include <sys/mman.h>
-
-/* ---- checks */
-
-static unsigned passed, failed;
-
-static void check(int holds, const char *what)
-{
-    if (holds) {
-        passed++;
-    } else {
-        failed++;
-        printf("  SURPRISE: %s\n", what);
-    }
-}
-
-/* What an answer means, in words for the rack's log. */
-static const char *meaning(uint32_t answer)
-{
-    switch (answer) {
-    case RASPPUCE_OK:           return "done";
-    case RASPPUCE_KEYS:         return "key material or the link to key has a wrong length";
-    case RASPPUCE_MESSAGE:      return "the message is over 256 bytes";
-    case RASPPUCE_TAPE:         return "the tape is too short for this message";
-    case RASPPUCE_OUTPUT:       return "an output is shorter than the result";
-    case RASPPUCE_BLOCK:        return "a block call takes 16 bytes each";
-    case RASPPUCE_LANE:         return "there is no such call, round or lane";
-    case RASPPUCE_RECORD:       return "a record has 24 to 280 bytes";
-    case RASPPUCE_OTHER_LINK:   return "the record is for another link";
-    case RASPPUCE_TAG:          return "wrong tag: damaged, forged or under another key";
-    case RASPPUCE_SEQUENCE:     return "plain sealing begins with sequence number 1";
-    case RASPPUCE_NOT_KEYED:    return "the link is not keyed";
-    case RASPPUCE_NUMBERS_USED: return "the link has used its last number; key it anew";
-    case RASPPUCE_OLD_NUMBER:   return "a record of this number or a later one was accepted before";
-    default:                    return "no known answer";
-    }
-}
 
 /* ---- bytes */
 
@@ -57,7 +22,8 @@ enum { ROOM = 65536 };
 
 /*
  * A slice stands alone in a room, with pages on both sides that can't be touched. It ends where
- * the room ends or begins where it begins: a step outside on that side ends the program.
+ * the room ends or begins where it begins: a step outside on that side ends the program. Or it
+ * begins a byte later, where no number or word is aligned.
  */
 typedef struct {
     uint8_t *room;
@@ -68,7 +34,7 @@ typedef struct {
 
 #define LEND(s) (s).at, (s).len
 
-static int at_end; /* whether slices stand at the end of their rooms */
+static enum { AT_START, AT_END, AT_ODD, PLACES } place; /* where slices stand in their rooms */
 
 enum { MOST_SLICES = 20 };
 static slice *all_slices[MOST_SLICES];
@@ -77,7 +43,7 @@ static unsigned slice_count;
 /* Makes the slice `len` bytes long; it keeps its first ones. */
 static void fit(slice *s, size_t len)
 {
-    uint8_t *at = at_end ? s->room + ROOM - len : s->room;
+    uint8_t *at = place == AT_END ? s->room + ROOM - len : s->room + (place == AT_ODD);
     memmove(at, s->at, len < s->len ? len : s->len);
     s->at = at;
     s->len = len;
@@ -329,7 +295,7 @@ static void refused(uint32_t answer, uint32_t expected, const char *how)
     if (answer <= RASPPUCE_OLD_NUMBER)
         met[answer] = 1;
     check(all_as_saved(), "a refusal leaves every byte as it was");
-    printf("  %2lu  %-46s %s\n", (unsigned long)answer, how, meaning(answer));
+    printf("  %2lu  %-46s %s\n", (unsigned long)answer, how, rasppuce_meaning(answer));
 }
 
 /* Makes `odd` so long, and saves every slice. */
@@ -441,7 +407,7 @@ static void play(void)
 /* Reads the byte at the edge of a slice, and the next one outside. */
 static void step_outside(int behind)
 {
-    at_end = behind;
+    place = behind ? AT_END : AT_START;
     set_up();
     volatile uint8_t *edge = behind ? message.at + message.len - 1 : message.at;
     printf("inside: %d\n", edge[0]);
@@ -455,10 +421,11 @@ int main(int argc, char **argv)
         step_outside(strcmp(argv[1], "behind") == 0);
         return 0;
     }
-    for (at_end = 0; at_end <= 1; at_end++) {
-        printf("---- every slice %s a page that can't be touched\n", at_end ? "before" : "after");
+    static const char *const places[PLACES] = {
+        "after a page that can't be touched", "before a page that can't be touched", "at an odd address"};
+    for (place = AT_START; place < PLACES; place++) {
+        printf("---- every slice %s\n", places[place]);
         play();
     }
-    printf("%u passed, %u failed\n", passed, failed);
-    return failed != 0;
+    return end_checks();
 }

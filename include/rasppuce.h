@@ -9,15 +9,39 @@
  * For every call:
  *
  * - A slice is a pointer and a length in bytes. The pointer may be NULL only where the length is
- *   0; otherwise that many bytes have to stand there.
+ *   0; otherwise that many bytes have to stand there, at any address: nothing has to be aligned.
  * - A slice that a call may write must not overlap any other slice of the same call. Those it
  *   only reads are const, and may overlap each other.
  * - It returns RASPPUCE_OK or the number of one refusal: of those listed with the call, the first
- *   that applies, in the order listed. Nothing else makes it refuse.
+ *   that applies, in the order listed. Nothing else makes it refuse. rasppuce_meaning has the
+ *   words for a log.
  * - A refusal leaves every byte that was lent as it was.
  * - Success writes what is said here and leaves the rest of a longer slice untouched.
- * - It keeps nothing: what lasts from call to call is in the bytes of the link.
+ * - It keeps nothing: what lasts from call to call is in the bytes of the link. Threads may call
+ *   at once on different links, as long as none writes to bytes that are lent to another then.
  * - Multi-byte numbers in links, records and counts are big-endian.
+ *
+ * What the host has to see to:
+ *
+ * - Power loss. Sealing advances the sending link. Store the advanced link before the record
+ *   leaves, and never put an older copy back, from a backup or a snapshot either: the next record
+ *   would have a number that was used, and under one number the key stream is the same: two such
+ *   ciphertexts XOR to what their messages XOR to. If a stored link may be old, use new keys.
+ *   An older copy of a receiving link lets the records since then in once more.
+ * - Secrets in memory. Links, keys and tapes are secret; rasppuce_wipe clears them. Every call also
+ *   leaves bytes of keys or key shares on the stack below its caller, and some leave bytes of the
+ *   key stream or the message (bench/sizes shows which). Where somebody could read them there,
+ *   clear that too, from the function that made the call:
+ *
+ *       __attribute__((noinline, no_stack_protector)) static void wipe_stack(void)
+ *       {
+ *           uint8_t room[RASPPUCE_STACK_MOST];
+ *           rasppuce_wipe(room, sizeof room);
+ *       }
+ *
+ * - Time. Nothing is claimed on how long a call takes, whatever its bytes are. The table engine,
+ *   rasppuce_encrypt_table and rasppuce_decrypt_table, looks up tables by bytes that depend on key
+ *   and block, so that a cache can tell of them; no other call has a table of that kind.
  */
 #ifndef RASPPUCE_H
 #define RASPPUCE_H
@@ -28,6 +52,13 @@
 #ifdef __cplusplus
 extern "C" {
 #endif
+
+/* ---- version of this header and of the archive that comes with it: see CHANGELOG.md */
+
+#define RASPPUCE_VERSION_MAJOR 1
+#define RASPPUCE_VERSION_MINOR 0
+#define RASPPUCE_VERSION_PATCH 0
+#define RASPPUCE_VERSION       "1.0.0"
 
 /* ---- answers: success, refusals from the input (1 to 10), refusals from the link's state */
 
@@ -47,7 +78,7 @@ extern "C" {
 #define RASPPUCE_NUMBERS_USED 21u /* the sender's last number is 4294967295, so none is left */
 #define RASPPUCE_OLD_NUMBER   22u /* the record's number isn't above the last accepted one */
 
-/* ---- sizes in bytes */
+/* ---- sizes in bytes; they can stand in #if */
 
 #define RASPPUCE_BLOCK_BYTES         16u  /* a block, and a key of the cipher */
 #define RASPPUCE_SENDER_BYTES        105u /* a sending link */
@@ -55,20 +86,65 @@ extern "C" {
 #define RASPPUCE_SENDER_KEY_BYTES    96u  /* three shares of KE, then three of KM */
 #define RASPPUCE_RECEIVER_KEY_BYTES  32u  /* KE, then KM; for plain sealing too */
 #define RASPPUCE_MESSAGE_MOST        256u /* the longest message */
+#define RASPPUCE_NUMBER_BYTES        4u   /* a link number, at a record's start */
+#define RASPPUCE_SEQUENCE_BYTES      4u   /* a sequence number, behind it */
+#define RASPPUCE_TAG_BYTES           16u  /* a record's tag, at its end */
 #define RASPPUCE_RECORD_ADDS         24u  /* what a record has more than its message */
 #define RASPPUCE_RECORD_MOST         280u /* the longest record */
-#define RASPPUCE_TAG_BYTES           16u  /* a record's tag, at its end */
 #define RASPPUCE_SHARES_BYTES        52u  /* three tag shares and the tape count */
 #define RASPPUCE_LANE_BYTES          48u  /* one reported lane */
+#define RASPPUCE_KEY_MASKS_BYTES     64u  /* of a tape: two masks for each key, at its start */
+#define RASPPUCE_ROUND_MASKS_BYTES   32u  /* of a tape: two masks for each round of each call */
 #define RASPPUCE_TAPE_MOST           38144u /* the tape for the longest message */
-
-/* For a message of m bytes: how many calls of the cipher a sealing makes, and the tape it needs. */
-#define RASPPUCE_CALLS(m)      (2u * (((size_t)(m) + 15u) / 16u) + 2u)
-#define RASPPUCE_TAPE_BYTES(m) (64u + 1120u * RASPPUCE_CALLS(m))
+#define RASPPUCE_STACK_MOST          5120u  /* the stack of any call, and a quarter more */
 
 /* The last round that a report can show, and the last lane; rounds count from 1, lanes from 0. */
 #define RASPPUCE_LAST_ROUND 35u
 #define RASPPUCE_LAST_LANE  2u
+
+/* For a message of m bytes: how many calls of the cipher a sealing makes, and the tape it needs. */
+#define RASPPUCE_CALLS(m) (2u * (((m) + 15u) / 16u) + 2u)
+#define RASPPUCE_TAPE_BYTES(m) \
+    (RASPPUCE_KEY_MASKS_BYTES + RASPPUCE_ROUND_MASKS_BYTES * RASPPUCE_LAST_ROUND * RASPPUCE_CALLS(m))
+
+/* ---- what a host needs besides the calls */
+
+/* What an answer means, in words for a log. */
+static inline const char *rasppuce_meaning(uint32_t answer)
+{
+    switch (answer) {
+    case RASPPUCE_OK:           return "done";
+    case RASPPUCE_KEYS:         return "key material or the link to key has a wrong length";
+    case RASPPUCE_MESSAGE:      return "the message is over 256 bytes";
+    case RASPPUCE_TAPE:         return "the tape is too short for this message";
+    case RASPPUCE_OUTPUT:       return "an output is shorter than the result";
+    case RASPPUCE_BLOCK:        return "a block call takes 16 bytes each";
+    case RASPPUCE_LANE:         return "there is no such call, round or lane";
+    case RASPPUCE_RECORD:       return "a record has 24 to 280 bytes";
+    case RASPPUCE_OTHER_LINK:   return "the record is for another link";
+    case RASPPUCE_TAG:          return "wrong tag: damaged, forged or under another key";
+    case RASPPUCE_SEQUENCE:     return "sequence numbers begin with 1";
+    case RASPPUCE_NOT_KEYED:    return "the link is not keyed";
+    case RASPPUCE_NUMBERS_USED: return "the link has used its last number: key it anew";
+    case RASPPUCE_OLD_NUMBER:   return "this number or a later one was accepted before";
+    default:                    return "no answer of Rasppuce";
+    }
+}
+
+/* Sets bytes to 0, also where a compiler sees that nobody reads them again. */
+static inline void rasppuce_wipe(uint8_t *bytes, size_t len)
+{
+    volatile uint8_t *seen = bytes;
+    for (size_t i = 0; i < len; i++)
+        seen[i] = 0;
+}
+
+/* A call whose answer nobody looks at gets a warning, where the compiler has one. */
+#if defined(__GNUC__)
+#define RASPPUCE_CHECK __attribute__((warn_unused_result))
+#else
+#define RASPPUCE_CHECK
+#endif
 
 /* ---- links
  *
@@ -92,6 +168,7 @@ extern "C" {
  *
  * Refuses: RASPPUCE_KEYS (link not 105 bytes or keys not 96).
  */
+RASPPUCE_CHECK
 uint32_t rasppuce_key_sender(uint8_t *link, size_t link_len, uint32_t number,
                              const uint8_t *keys, size_t keys_len);
 
@@ -101,6 +178,7 @@ uint32_t rasppuce_key_sender(uint8_t *link, size_t link_len, uint32_t number,
  *
  * Refuses: RASPPUCE_KEYS (link not 41 bytes or keys not 32).
  */
+RASPPUCE_CHECK
 uint32_t rasppuce_key_receiver(uint8_t *link, size_t link_len, uint32_t number,
                                const uint8_t *keys, size_t keys_len);
 
@@ -117,6 +195,7 @@ uint32_t rasppuce_key_receiver(uint8_t *link, size_t link_len, uint32_t number,
  * Refuses, and then uses no number: RASPPUCE_NOT_KEYED, RASPPUCE_NUMBERS_USED, RASPPUCE_MESSAGE,
  * RASPPUCE_TAPE, RASPPUCE_OUTPUT (record shorter than message_len + 24, or shares than 52).
  */
+RASPPUCE_CHECK
 uint32_t rasppuce_seal(uint8_t *link, size_t link_len,
                        const uint8_t *message, size_t message_len,
                        const uint8_t *tape, size_t tape_len,
@@ -132,6 +211,7 @@ uint32_t rasppuce_seal(uint8_t *link, size_t link_len,
  * Refuses: RASPPUCE_NOT_KEYED, RASPPUCE_RECORD, RASPPUCE_OTHER_LINK, RASPPUCE_OUTPUT (message
  * shorter than record_len - 24), RASPPUCE_OLD_NUMBER, RASPPUCE_TAG.
  */
+RASPPUCE_CHECK
 uint32_t rasppuce_open(uint8_t *link, size_t link_len,
                        const uint8_t *record, size_t record_len,
                        uint8_t *message, size_t message_len);
@@ -147,6 +227,7 @@ uint32_t rasppuce_open(uint8_t *link, size_t link_len,
  *
  * Refuses: RASPPUCE_KEYS (not 32 bytes), RASPPUCE_SEQUENCE, RASPPUCE_MESSAGE, RASPPUCE_OUTPUT.
  */
+RASPPUCE_CHECK
 uint32_t rasppuce_seal_plain(const uint8_t *keys, size_t keys_len,
                              uint32_t number, uint32_t sequence,
                              const uint8_t *message, size_t message_len,
@@ -166,6 +247,7 @@ uint32_t rasppuce_seal_plain(const uint8_t *keys, size_t keys_len,
  * Refuses: RASPPUCE_NOT_KEYED, RASPPUCE_NUMBERS_USED, RASPPUCE_MESSAGE, RASPPUCE_TAPE,
  * RASPPUCE_LANE, RASPPUCE_OUTPUT (shorter than 48).
  */
+RASPPUCE_CHECK
 uint32_t rasppuce_report(const uint8_t *link, size_t link_len,
                          const uint8_t *message, size_t message_len,
                          const uint8_t *tape, size_t tape_len,
@@ -178,15 +260,19 @@ uint32_t rasppuce_report(const uint8_t *link, size_t link_len,
  *
  * Refuses: RASPPUCE_BLOCK.
  */
+RASPPUCE_CHECK
 uint32_t rasppuce_encrypt_table(const uint8_t *key, size_t key_len,
                                 const uint8_t *input, size_t input_len,
                                 uint8_t *output, size_t output_len);
+RASPPUCE_CHECK
 uint32_t rasppuce_decrypt_table(const uint8_t *key, size_t key_len,
                                 const uint8_t *input, size_t input_len,
                                 uint8_t *output, size_t output_len);
+RASPPUCE_CHECK
 uint32_t rasppuce_encrypt_packed(const uint8_t *key, size_t key_len,
                                  const uint8_t *input, size_t input_len,
                                  uint8_t *output, size_t output_len);
+RASPPUCE_CHECK
 uint32_t rasppuce_decrypt_packed(const uint8_t *key, size_t key_len,
                                  const uint8_t *input, size_t input_len,
                                  uint8_t *output, size_t output_len);

@@ -1,0 +1,77 @@
+/*
+ * What the header gives besides the calls: sizes for the preprocessor, the words of each answer, and
+ * a wipe. It is compiled as C and as C++. With IGNORED it leaves an answer unused, which has to be
+ * a warning.
+ */
+#include "rasppuce.h"
+#include "check.h"
+
+#include <stdio.h>
+#include <string.h>
+
+#if RASPPUCE_RECORD_ADDS != RASPPUCE_NUMBER_BYTES + RASPPUCE_SEQUENCE_BYTES + RASPPUCE_TAG_BYTES
+#error "what a record adds is its numbers and its tag"
+#endif
+#if RASPPUCE_RECORD_MOST != RASPPUCE_MESSAGE_MOST + RASPPUCE_RECORD_ADDS
+#error "the longest record has the longest message"
+#endif
+#if RASPPUCE_CALLS(0) != 2 || RASPPUCE_CALLS(1) != 4 || RASPPUCE_CALLS(16) != 4 || RASPPUCE_CALLS(17) != 6
+#error "two calls for each block, and two"
+#endif
+#if RASPPUCE_TAPE_BYTES(0) != 2304 || RASPPUCE_TAPE_BYTES(RASPPUCE_MESSAGE_MOST) != RASPPUCE_TAPE_MOST
+#error "1120 bytes for each call, and 64"
+#endif
+#if RASPPUCE_VERSION_MAJOR < 1
+#error "no version"
+#endif
+
+/* The answers that there are: 0 to 10 and 20 to 22. */
+static int is_answer(uint32_t number)
+{
+    return number <= RASPPUCE_SEQUENCE || (RASPPUCE_NOT_KEYED <= number && number <= RASPPUCE_OLD_NUMBER);
+}
+
+/* Every answer has words of its own, and no other number has any. */
+static void meanings(void)
+{
+    const char *none = rasppuce_meaning(UINT32_MAX);
+    for (uint32_t i = 0; i < 100; i++) {
+        check((strcmp(rasppuce_meaning(i), none) != 0) == is_answer(i), "the answers have words, other numbers have none");
+        for (uint32_t j = 0; is_answer(i) && j < i; j++)
+            check(strcmp(rasppuce_meaning(i), rasppuce_meaning(j)) != 0, "two answers differ in words");
+    }
+}
+
+/* The version as text is that of the numbers. */
+static void versions(void)
+{
+    char text[32];
+    snprintf(text, sizeof text, "%d.%d.%d", RASPPUCE_VERSION_MAJOR, RASPPUCE_VERSION_MINOR, RASPPUCE_VERSION_PATCH);
+    check(strcmp(text, RASPPUCE_VERSION) == 0, "the version's text");
+}
+
+/* A wipe clears the bytes lent and no other. */
+static void wipes(void)
+{
+    uint8_t bytes[10];
+    memset(bytes, 7, sizeof bytes);
+    rasppuce_wipe(bytes + 1, 8);
+    for (int i = 0; i < 10; i++)
+        check(bytes[i] == (i == 0 || i == 9 ? 7 : 0), "a wipe");
+}
+
+#ifdef IGNORED
+void ignored(uint8_t *link, const uint8_t *keys);
+void ignored(uint8_t *link, const uint8_t *keys)
+{
+    rasppuce_key_sender(link, RASPPUCE_SENDER_BYTES, 1, keys, RASPPUCE_SENDER_KEY_BYTES);
+}
+#endif
+
+int main(void)
+{
+    meanings();
+    versions();
+    wipes();
+    return end_checks();
+}
