@@ -1,233 +1,192 @@
 /*
- * Shows on one screen what the sealer does: a time mark sealed in two ways with the same record,
- * opened, a replay refused, and why a probe at one lane learns nothing.
+ * The first screen: a time mark is sealed and opened, and three wrong records are refused.
  * The exit status is 1 if anything is not as the text says.
  */
-#include "rasppuce.h"
+#include "link.h"
+#include "screen.h"
 
 #include <stdio.h>
 #include <string.h>
 
-enum { LINK = 7, BLOCK = RASPPUCE_BLOCK_BYTES };
+/* The time mark of a second later, for record 2. */
+#define NEXT_MARK "2026-03-02 14:05:10.250 +01:00"
 
-static int as_said = 1;
+enum { OTHER_LINK = 8 };
 
-/* Prints whether something holds; it always should. */
-static void say(int holds, const char *yes, const char *no)
-{
-    printf("   %s\n", holds ? yes : no);
-    as_said &= holds;
-}
-
-/* ---- bytes */
-
-/* Stands for a random source: here each run has the same bytes, so that it can be compared. */
-static void fill(uint8_t *bytes, size_t len)
-{
-    static uint64_t state = 0x13198a2e03707344;
-    for (size_t i = 0; i < len; i++) {
-        state ^= state << 13;
-        state ^= state >> 7;
-        state ^= state << 17;
-        bytes[i] = (uint8_t)(state >> 32);
-    }
-}
-
-/* XORs 16 bytes into 16 others. */
-static void add(uint8_t *to, const uint8_t *what)
-{
-    for (int i = 0; i < BLOCK; i++)
-        to[i] ^= what[i];
-}
-
-/* Hexadecimal digits in groups of four bytes, at most 32 bytes to a line. */
-static void print_bytes(const char *name, const uint8_t *bytes, size_t len)
-{
-    for (size_t i = 0; i < len; i++) {
-        if (i % 32 == 0)
-            printf("%s   %-5s", i ? "\n" : "", i ? "" : name);
-        printf("%s%02x", i % 4 == 0 ? " " : "", bytes[i]);
-    }
-    printf("\n");
-}
-
-/* ---- the one tape */
-
-/* One sealing whose lane is shown: its link, message and tape, and which lane of which round. */
-typedef struct {
-    uint8_t link[RASPPUCE_SENDER_BYTES];
-    const char *message;
-    uint8_t tape[RASPPUCE_TAPE_MOST];
-} sealing;
-
-enum { CALL = 5, ROUND = 17, LANE = 1 };
-
-/* The lane as the report shows it: state shares 2 and 0, then key share 1. */
-static void show(const sealing *s, uint8_t lane[RASPPUCE_LANE_BYTES])
-{
-    uint32_t answer = rasppuce_report(s->link, sizeof s->link,
-                                      (const uint8_t *)s->message, strlen(s->message),
-                                      s->tape, sizeof s->tape, CALL, ROUND, LANE,
-                                      lane, RASPPUCE_LANE_BYTES);
-    if (answer != RASPPUCE_OK)
-        say(0, "", "the report was refused");
-}
-
-/* A key share is rotated right by one bit in each round: this undoes all rotations. */
-static void rotate_back(uint8_t *block)
-{
-    for (int turn = 0; turn < ROUND; turn++) {
-        uint8_t top = block[0] >> 7;
-        for (int i = 0; i < BLOCK; i++)
-            block[i] = (uint8_t)(block[i] << 1 | (i + 1 < BLOCK ? block[i + 1] >> 7 : top));
-    }
-}
-
-/* Where the masks that decide over this lane stand in the tape. */
+/* Where the fields of a record begin; the link number stands at its start. */
 enum {
-    D_AT = 48,                                        /* mask d of key KM: key share 1 gets it */
-    U_AT = 64 + 1120 * (CALL - 1) + 32 * (ROUND - 1), /* mask u of the round: share 0 gets it */
-    V_AT = U_AT + BLOCK                               /* mask v: share 1 gets it, share 2 u XOR v */
+    NUMBER_AT = RASPPUCE_NUMBER_BYTES,
+    TEXT_AT = NUMBER_AT + RASPPUCE_SEQUENCE_BYTES,
+    TAG_AT = TEXT_AT + MARK_BYTES
 };
-
-/* Changes the three masks in the tape of `s` so that it shows the wanted lane. */
-static void solve(sealing *s, const uint8_t wanted[RASPPUCE_LANE_BYTES])
-{
-    uint8_t lane[RASPPUCE_LANE_BYTES];
-
-    /* The key share shown is off by some bits; mask d takes just these. */
-    show(s, lane);
-    add(lane + 32, wanted + 32);
-    rotate_back(lane + 32);
-    add(s->tape + D_AT, lane + 32);
-
-    /* With that, share 0 is off by some bits: mask u takes these. Share 2 has mask u XOR v. */
-    show(s, lane);
-    add(lane, wanted);
-    add(lane + 16, wanted + 16);
-    add(s->tape + U_AT, lane + 16);
-    add(s->tape + V_AT, lane);
-    add(s->tape + V_AT, lane + 16);
-}
-
-static void print_mask(const char *name, const uint8_t *was, const uint8_t *is)
-{
-    print_bytes(name, was, BLOCK);
-    print_bytes("  now", is, BLOCK);
-}
-
-/* ---- the screen */
-
-static sealing ours, theirs;
 
 /* ---- the cipher */
 
-/* A published vector, encrypted by both engines and decrypted again. */
+static const uint8_t key[BLOCK] = {0x59, 0x20, 0xef, 0xfb, 0x52, 0xbc, 0x61, 0xe3,
+                                   0x3a, 0x98, 0x42, 0x53, 0x21, 0xe7, 0x69, 0x15};
+static const uint8_t block[BLOCK] = {0xe6, 0x51, 0x75, 0x31, 0xab, 0xf6, 0x3f, 0x3d,
+                                     0x78, 0x05, 0xe1, 0x26, 0x94, 0x3a, 0x08, 0x1c};
+static const uint8_t published[BLOCK] = {0xfc, 0x7e, 0x61, 0xfe, 0xe3, 0xd5, 0x87, 0x30,
+                                         0x8c, 0xa7, 0xbc, 0x59, 0x4e, 0xbf, 0x32, 0x44};
+
+/* Whether the engine by table gives the published block, and the first one back. */
+static int table_right(void)
+{
+    uint8_t there[BLOCK] = {0}, back[BLOCK] = {0};
+    return rasppuce_encrypt_table(key, BLOCK, block, BLOCK, there, BLOCK) == RASPPUCE_OK
+        && rasppuce_decrypt_table(key, BLOCK, there, BLOCK, back, BLOCK) == RASPPUCE_OK
+        && memcmp(there, published, BLOCK) == 0 && memcmp(back, block, BLOCK) == 0;
+}
+
+/* Whether the engine by packed words does so too; `there` gets what it makes of the block. */
+static int packed_right(uint8_t there[BLOCK])
+{
+    uint8_t back[BLOCK] = {0};
+    return rasppuce_encrypt_packed(key, BLOCK, block, BLOCK, there, BLOCK) == RASPPUCE_OK
+        && rasppuce_decrypt_packed(key, BLOCK, there, BLOCK, back, BLOCK) == RASPPUCE_OK
+        && memcmp(there, published, BLOCK) == 0 && memcmp(back, block, BLOCK) == 0;
+}
+
+/* A published example of the cipher, by both engines. */
 static void show_cipher(void)
 {
-    static const uint8_t key[BLOCK] = {0x59, 0x20, 0xef, 0xfb, 0x52, 0xbc, 0x61, 0xe3,
-                                       0x3a, 0x98, 0x42, 0x53, 0x21, 0xe7, 0x69, 0x15};
-    static const uint8_t block[BLOCK] = {0xe6, 0x51, 0x75, 0x31, 0xab, 0xf6, 0x3f, 0x3d,
-                                         0x78, 0x05, 0xe1, 0x26, 0x94, 0x3a, 0x08, 0x1c};
-    static const uint8_t published[BLOCK] = {0xfc, 0x7e, 0x61, 0xfe, 0xe3, 0xd5, 0x87, 0x30,
-                                             0x8c, 0xa7, 0xbc, 0x59, 0x4e, 0xbf, 0x32, 0x44};
-    uint8_t table[BLOCK], packed[BLOCK], again[BLOCK], back[BLOCK];
-    printf("0. The cipher BAKSHEESH on a published vector\n");
-    int done = rasppuce_encrypt_table(key, BLOCK, block, BLOCK, table, BLOCK) == RASPPUCE_OK
-            && rasppuce_encrypt_packed(key, BLOCK, block, BLOCK, packed, BLOCK) == RASPPUCE_OK
-            && rasppuce_decrypt_table(key, BLOCK, table, BLOCK, again, BLOCK) == RASPPUCE_OK
-            && rasppuce_decrypt_packed(key, BLOCK, packed, BLOCK, back, BLOCK) == RASPPUCE_OK;
-    print_bytes("table", table, BLOCK);
-    print_bytes("words", packed, BLOCK);
-    say(done && memcmp(table, published, BLOCK) == 0 && memcmp(packed, published, BLOCK) == 0,
-        "By table and by words it is the published ciphertext.", "It is NOT the published one.");
-    say(memcmp(again, block, BLOCK) == 0 && memcmp(back, block, BLOCK) == 0,
-        "Decrypted, both give the block again.", "Decrypted, they DIFFER from the block.");
+    uint8_t there[BLOCK] = {0};
+    int right = packed_right(there) && table_right();
+    printf("1 The cipher hides 16 bytes with a secret key. Both engines (programs for it)\n");
+    int used = printf("  give the published result, in hex: ");
+    end_line(used + print_hex(there, BLOCK), right);
+}
+
+/* ---- keys */
+
+/* Both ends of the link get their keys. */
+static void show_keys(both_ends *ends)
+{
+    int keyed = key_both(ends, LINK);
+    const uint8_t *in_shares = ends->sender + sizeof ends->sender - sizeof ends->shares;
+    const uint8_t *whole = ends->receiver + sizeof ends->receiver - sizeof ends->keys;
+    printf("2 Link %d (one sender and its receiver) gets two keys: the receiver whole, the\n",
+           LINK);
+    end_line(printf("  sender as 3 shares each (parts; only all 3 together give the key)"),
+             keyed && memcmp(in_shares, ends->shares, sizeof ends->shares) == 0
+                   && memcmp(whole, ends->keys, sizeof ends->keys) == 0);
+}
+
+/* ---- sealing */
+
+/* Seals the next time mark by shares, with a new tape; says whether that was done. */
+static int seal_next(both_ends *ends, const char *mark, uint8_t record[RECORD_BYTES])
+{
+    uint8_t tape[TAPE_BYTES], tag_shares[RASPPUCE_SHARES_BYTES];
+    fill(tape, sizeof tape);
+    return seal_mark(ends, mark, tape, record, tag_shares) == RASPPUCE_OK;
+}
+
+/* Whether a record is number 1 of the link, with the time mark hidden. */
+static int fields_right(const uint8_t record[RECORD_BYTES])
+{
+    return read_number(record) == LINK && read_number(record + NUMBER_AT) == 1
+        && memcmp(record + TEXT_AT, MARK, MARK_BYTES) != 0;
+}
+
+/* The column in which a field is explained. */
+enum { WHAT_AT = 47 };
+
+/* One field of a record, 16 bytes to a line, and what it is. */
+static void print_field(const char *name, const uint8_t *bytes, size_t len, const char *what)
+{
+    int used = printf("  %-8s", name);
+    used += print_hex(bytes, len < BLOCK ? len : BLOCK);
+    printf("%*s%s\n", WHAT_AT - used, "", what);
+    if (len > BLOCK) {
+        printf("  %-8s", "");
+        print_hex(bytes + BLOCK, len - BLOCK);
+        printf("\n");
+    }
+}
+
+/* The sender seals the time mark, by shares and plainly. */
+static void show_sealing(both_ends *ends, uint8_t record[RECORD_BYTES])
+{
+    uint8_t plain[RECORD_BYTES] = {0};
+    int sealed = seal_next(ends, MARK, record)
+              && rasppuce_seal_plain(ends->keys, sizeof ends->keys, LINK, 1,
+                                     (const uint8_t *)MARK, MARK_BYTES,
+                                     plain, sizeof plain) == RASPPUCE_OK;
+    printf("3 Sealing \"%s\" gives a record, the bytes to send.\n", MARK);
+    end_line(printf("  By shares or plainly (by the whole keys) it is the same one. Its fields:"),
+             sealed && fields_right(record) && memcmp(record, plain, sizeof plain) == 0);
+    print_field("link", record, RASPPUCE_NUMBER_BYTES, "the link that it is for");
+    print_field("number", record + NUMBER_AT, RASPPUCE_SEQUENCE_BYTES,
+                "sequence number: 1, 2, 3 and on");
+    print_field("text", record + TEXT_AT, MARK_BYTES, "the time mark, hidden");
+    print_field("tag", record + TAG_AT, RASPPUCE_TAG_BYTES, "check value, made with a key");
+}
+
+/* ---- opening */
+
+/* The receiver opens a record and has to read this time mark. */
+static void show_opening(both_ends *ends, const uint8_t record[RECORD_BYTES], const char *what,
+                         const char *mark)
+{
+    char opened[MARK_BYTES + 1] = {0};
+    uint32_t answer = open_mark(ends, record, opened);
+    end_line(printf("%s: \"%s\"", what, opened),
+             answer == RASPPUCE_OK && strcmp(opened, mark) == 0);
+}
+
+/* The receiver has to refuse a record. Says whether it stays as it was then and gives nothing. */
+static int show_refusal(both_ends *ends, const uint8_t record[RECORD_BYTES], const char *what,
+                        uint32_t expected, const char *why)
+{
+    static const char nothing[MARK_BYTES];
+    char opened[MARK_BYTES] = {0};
+    uint8_t before[RASPPUCE_RECEIVER_BYTES];
+    memcpy(before, ends->receiver, sizeof before);
+    uint32_t answer = open_mark(ends, record, opened);
+    end_refused(printf("%s", what), answer, expected, why);
+    return answer == expected && memcmp(before, ends->receiver, sizeof before) == 0
+        && memcmp(opened, nothing, sizeof nothing) == 0;
+}
+
+/* Seals a time mark on the other link; says whether that link's own receiver opens it. */
+static int seal_other(uint8_t record[RECORD_BYTES])
+{
+    both_ends ends = {0};
+    char opened[MARK_BYTES] = {0};
+    return key_both(&ends, OTHER_LINK) && seal_next(&ends, MARK, record)
+        && open_mark(&ends, record, opened) == RASPPUCE_OK
+        && memcmp(opened, MARK, MARK_BYTES) == 0;
+}
+
+/* Three records that the receiver has to refuse, and the next one, which it has to open. */
+static void show_refusals(both_ends *ends, const uint8_t first[RECORD_BYTES])
+{
+    uint8_t second[RECORD_BYTES] = {0}, damaged[RECORD_BYTES], other[RECORD_BYTES] = {0};
+    expect(seal_next(ends, NEXT_MARK, second), "record 2 was not sealed.");
+    expect(seal_other(other), "link 8 does not open its own record.");
+    memcpy(damaged, second, sizeof second);
+    damaged[TEXT_AT] ^= 1;
+
+    int kept = show_refusal(ends, first, "5 Record 1 again", RASPPUCE_OLD_NUMBER,
+                            "an old record, sent once more (a replay), must not count again.");
+    kept &= show_refusal(ends, damaged, "6 Record 2, damaged", RASPPUCE_TAG,
+                         "one bit of its text was flipped on the way; the tag shows it.");
+    kept &= show_refusal(ends, other, "7 A record of link 8", RASPPUCE_OTHER_LINK,
+                         "the receiver of link 8 opens it, the one of link 7 must not.");
+    end_line(printf("  Each time the receiver gave out nothing and stayed as it was"), kept);
+    show_opening(ends, second, "8 So record 2, undamaged, still opens", NEXT_MARK);
 }
 
 int main(void)
 {
+    both_ends ends = {0};
+    uint8_t record[RECORD_BYTES] = {0};
+    printf("Rasppuce seals time marks: they travel hidden, and damage to them shows.\n");
     show_cipher();
-    uint8_t shares[RASPPUCE_SENDER_KEY_BYTES], keys[RASPPUCE_RECEIVER_KEY_BYTES] = {0};
-    uint8_t sender[RASPPUCE_SENDER_BYTES] = {0}, receiver[RASPPUCE_RECEIVER_BYTES] = {0};
-    ours.message = "2026-03-02 14:05:09.250 +01:00";
-    theirs.message = "1999-12-31 23:59:59.999 -05:00";
-    const uint8_t *message = (const uint8_t *)ours.message;
-    const size_t len = strlen(ours.message);
-
-    printf("1. Both ends of link %d get their keys\n", LINK);
-    fill(shares, sizeof shares);
-    for (int i = 0; i < 3; i++) {
-        add(keys, shares + BLOCK * i);
-        add(keys + BLOCK, shares + 48 + BLOCK * i);
-    }
-    int keyed = rasppuce_key_sender(sender, sizeof sender, LINK, shares, sizeof shares) == RASPPUCE_OK
-             && rasppuce_key_receiver(receiver, sizeof receiver, LINK, keys, sizeof keys) == RASPPUCE_OK;
-    say(keyed, "The sender holds each key in three parts, the receiver holds it whole.",
-        "The keys were refused.");
-    memcpy(ours.link, sender, sizeof sender);
-
-    printf("2. The sender seals the time mark \"%s\"\n", ours.message);
-    uint8_t record[RASPPUCE_RECORD_MOST], plain[RASPPUCE_RECORD_MOST], tag_shares[RASPPUCE_SHARES_BYTES];
-    const size_t record_len = len + RASPPUCE_RECORD_ADDS;
-    fill(ours.tape, sizeof ours.tape);
-    int sealed = rasppuce_seal(sender, sizeof sender, message, len, ours.tape, sizeof ours.tape,
-                               record, sizeof record, tag_shares, sizeof tag_shares) == RASPPUCE_OK
-              && rasppuce_seal_plain(keys, sizeof keys, LINK, 1, message, len, plain, sizeof plain)
-                 == RASPPUCE_OK;
-    say(sealed, "Link number, sequence number, hidden text and tag make the record:", "It was refused.");
-    print_bytes("parts", record, record_len);
-    print_bytes("whole", plain, record_len);
-    say(memcmp(record, plain, record_len) == 0,
-        "Sealed with the key in parts or with the whole key, it is the same record.",
-        "The two records DIFFER.");
-
-    printf("3. The receiver opens it\n");
-    char opened[RASPPUCE_MESSAGE_MOST + 1] = {0};
-    uint32_t answer = rasppuce_open(receiver, sizeof receiver, record, record_len,
-                                    (uint8_t *)opened, RASPPUCE_MESSAGE_MOST);
-    printf("   It reads \"%s\".\n", opened);
-    say(answer == RASPPUCE_OK && strcmp(opened, ours.message) == 0, "That is what was sealed.",
-        "That is NOT what was sealed.");
-
-    printf("4. Somebody sends the same record again\n");
-    uint8_t before[RASPPUCE_RECEIVER_BYTES];
-    memcpy(before, receiver, sizeof before);
-    answer = rasppuce_open(receiver, sizeof receiver, record, record_len,
-                           (uint8_t *)opened, RASPPUCE_MESSAGE_MOST);
-    printf("   The answer is %lu.\n", (unsigned long)answer);
-    say(answer == RASPPUCE_OLD_NUMBER,
-        "That means: refused, this number or a later one was accepted before.",
-        "That is NOT the answer to a replay.");
-    say(memcmp(before, receiver, sizeof before) == 0, "The receiver stays as it was.",
-        "The receiver has CHANGED.");
-
-    printf("5. A probe sits at the sender: call %d of the cipher, round %d, lane %d\n",
-           CALL, ROUND, LANE);
-    uint8_t seen[RASPPUCE_LANE_BYTES], also[RASPPUCE_LANE_BYTES];
-    show(&ours, seen);
-    printf("   These 48 bytes pass by, two parts of the state and one part of the key:\n");
-    print_bytes("state", seen, 32);
-    print_bytes("key", seen + 32, BLOCK);
-
-    printf("6. What does it learn? Take other keys, and \"%s\"\n", theirs.message);
-    fill(shares, sizeof shares);
-    if (rasppuce_key_sender(theirs.link, sizeof theirs.link, LINK, shares, sizeof shares) != RASPPUCE_OK)
-        say(0, "", "The keys were refused.");
-    memcpy(theirs.tape, ours.tape, sizeof ours.tape);
-    solve(&theirs, seen);
-    printf("   One change of 48 bytes in the random tape, found by solving for the masks:\n");
-    print_mask("d was", ours.tape + D_AT, theirs.tape + D_AT);
-    print_mask("u was", ours.tape + U_AT, theirs.tape + U_AT);
-    print_mask("v was", ours.tape + V_AT, theirs.tape + V_AT);
-    show(&theirs, also);
-    printf("   and the probe sees\n");
-    print_bytes("state", also, 32);
-    print_bytes("key", also + 32, BLOCK);
-    say(memcmp(seen, also, sizeof seen) == 0,
-        "the same 48 bytes: the tape is random, so they tell nothing of key or text.",
-        "OTHER bytes.");
-
-    printf("%s\n", as_said ? "All is as it should be." : "Something is NOT as it should be.");
-    return !as_said;
+    show_keys(&ends);
+    show_sealing(&ends, record);
+    show_opening(&ends, record, "4 The receiver opens it", MARK);
+    show_refusals(&ends, record);
+    return end_screen();
 }
