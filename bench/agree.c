@@ -126,8 +126,9 @@ static int openings_agree(void)
         baseline_seal_plain(keys, KEYS, number, 1 + random_sequence() / 2, message, length, record, RECORD);
         if (random_below(8) == 0)
             record[random_below(record_len)] ^= (uint8_t)(1 << random_below(8));
-        if (random_below(8) != 0)
-            rasppuce_key_receiver(link, sizeof link, number, keys, KEYS);
+        if (random_below(8) != 0
+            && rasppuce_key_receiver(link, sizeof link, number, keys, KEYS) != RASPPUCE_OK)
+            return differ("key receiver", i);
         if (random_below(8) == 0)
             random_bytes(link + 5, 4);
         memcpy(link_of_c, link, sizeof link);
@@ -170,8 +171,9 @@ static int shared_sealings_agree(void)
         memcpy(plain, a, RECORD);
         random_bytes(shares, SHARES);
         memcpy(shares_of_c, shares, SHARES);
-        if (random_below(32) != 0)
-            rasppuce_key_sender(link, sizeof link, number, key_shares, sizeof key_shares);
+        if (random_below(32) != 0
+            && rasppuce_key_sender(link, sizeof link, number, key_shares, sizeof key_shares) != RASPPUCE_OK)
+            return differ("key sender", i);
         for (int j = 0; j < 4; j++)
             link[5 + j] = (uint8_t)(last >> (24 - 8 * j));
         memcpy(link_of_c, link, sizeof link);
@@ -200,8 +202,9 @@ int all_agree(void)
         || !blocks_agree("decrypt table", rasppuce_decrypt_table, baseline_decrypt_packed)
         || !plain_sealings_agree() || !openings_agree() || !shared_sealings_agree())
         return 0;
-    printf("The archive and C agree on %d random blocks in each block call, on %d records plainly sealed,\n"
-           "on %d opened and on %d sealed on shares, of 0 to 256 bytes, refused ones among them.\n\n",
+    printf("The archive and C agree on %d random blocks in each block call, on %d\n"
+           "records plainly sealed, on %d opened and on %d sealed on shares, of 0 to\n"
+           "256 bytes, refused ones among them.\n\n",
            BLOCKS, PLAIN_RECORDS, PLAIN_RECORDS, SHARED_RECORDS);
     return 1;
 }

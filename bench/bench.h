@@ -1,4 +1,4 @@
-/* What comparing (agree.c) and timing (bench.c) share. */
+/* What comparing (agree.c), timing (bench.c) and measuring (sizes.c) share. */
 #ifndef BENCH_H
 #define BENCH_H
 
