@@ -83,7 +83,7 @@ impl Call for BlockCall {
 const RANDOM_CASES: usize = 10_000;
 
 /// Holds all four calls on one key: they take the plaintext to the ciphertext and back.
-fn hold_both_ways(tally: &mut Tally, key: &Block, plaintext: &Block, ciphertext: &Block, shift: usize) {
+pub fn hold_both_ways(tally: &mut Tally, key: &Block, plaintext: &Block, ciphertext: &Block, shift: usize) {
     for (functions, from, to) in [(&ENCRYPT, plaintext, ciphertext), (&DECRYPT, ciphertext, plaintext)] {
         for function in functions {
             let before =

@@ -25,14 +25,15 @@ impl Display for First<'_> {
     }
 }
 
-/// The 16 bytes that 32 digits say.
-pub fn block(digits: &str) -> Option<[u8; 16]> {
-    if digits.len() != 32 || !digits.bytes().all(|digit| digit.is_ascii_hexdigit()) {
+/// The bytes that digits say, two for each.
+pub fn bytes(digits: &str) -> Option<Vec<u8>> {
+    if digits.len() % 2 != 0 || !digits.bytes().all(|digit| digit.is_ascii_hexdigit()) {
         return None;
     }
-    let mut block = [0; 16];
-    for i in 0..16 {
-        block[i] = u8::from_str_radix(&digits[2 * i..2 * i + 2], 16).ok()?;
-    }
-    Some(block)
+    (0..digits.len()).step_by(2).map(|i| u8::from_str_radix(&digits[i..i + 2], 16).ok()).collect()
+}
+
+/// The 16 bytes that 32 digits say.
+pub fn block(digits: &str) -> Option<[u8; 16]> {
+    bytes(digits)?.try_into().ok()
 }

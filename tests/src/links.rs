@@ -106,7 +106,8 @@ fn tag_of(encrypt: impl FnMut(&Block) -> Block, number: u32, sequence: u32, ciph
     modes::cmac(encrypt, &[&shares::counter_block(number, sequence, 0)[..], ciphertext].concat())
 }
 
-fn two_keys(keys: &[u8]) -> (Block, Block) {
+/// KE and KM.
+pub fn two_keys(keys: &[u8]) -> (Block, Block) {
     (keys[..16].try_into().unwrap(), keys[16..32].try_into().unwrap())
 }
 

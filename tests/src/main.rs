@@ -9,6 +9,9 @@
 //!                                 COUNT random ones by the tests' own cipher
 //!     tests vectors | records | lanes | rack
 //!                                 what the program of this name has to print
+//!     tests document              what has to stand in docs/vectors.txt, by the tests' own code
+//!     tests held FILE             holds the C calls to the vectors of such a file; ends as the checks
+//!     tests --self-test held FILE the same with one bit of each expected value flipped
 //!     tests read AT               reads byte AT of 16 bytes lent as to a C call: at -1 and at 16 a
 //!                                 signal has to end the run
 
@@ -17,7 +20,10 @@ mod astray;
 mod blocks;
 mod cipher;
 mod definition;
+mod document;
+mod groups;
 mod guarded;
+mod held;
 mod hex;
 mod keying;
 mod lanes;
@@ -37,6 +43,7 @@ mod vectors;
 use hex::Hex;
 use random::Random;
 use std::env;
+use std::fs;
 use std::process::ExitCode;
 use tally::Tally;
 
@@ -104,6 +111,7 @@ fn main() -> ExitCode {
             eprintln!("usage: tests [--self-test] [SEED]");
             eprintln!("       tests encrypt KEY BLOCK | decrypt KEY BLOCK | cases COUNT [SEED]");
             eprintln!("       tests vectors | records | lanes | rack | read AT");
+            eprintln!("       tests document | [--self-test] held FILE");
             ExitCode::from(2)
         }
     }
@@ -126,15 +134,21 @@ fn obey(words: &[&str]) -> Option<ExitCode> {
             astray::read(&mut Tally::new(SEED, false), at.parse().ok()?);
             Some(ExitCode::SUCCESS)
         }
-        ["--self-test"] => self_test(SEED),
-        ["--self-test", seed] => self_test(number(seed)?),
-        [] => all_checks(SEED),
+        ["document"] => {
+            document::print();
+            Some(ExitCode::SUCCESS)
+        }
+        ["held", file] => Some(hold_file(file, false)),
+        ["--self-test", "held", file] => Some(hold_file(file, true)),
+        ["--self-test"] => Some(run(SEED, true, run_groups)),
+        ["--self-test", seed] => Some(run(number(seed)?, true, run_groups)),
+        [] => Some(run(SEED, false, run_groups)),
         [word] => match PROGRAMS.iter().find(|(name, _)| name == word) {
             Some((_, print)) => {
                 print();
                 Some(ExitCode::SUCCESS)
             }
-            None => all_checks(number(word)?),
+            None => Some(run(number(word)?, false, run_groups)),
         },
         _ => None,
     }
@@ -155,18 +169,32 @@ fn run_groups(tally: &mut Tally) {
     }
 }
 
-fn all_checks(seed: u64) -> Option<ExitCode> {
-    let mut tally = Tally::new(seed, false);
-    run_groups(&mut tally);
-    Some(if tally.summary() { ExitCode::SUCCESS } else { ExitCode::FAILURE })
+/// Runs checks and prints their count. The status is 1 if one failed or, under `--self-test`, if all
+/// did.
+fn run(seed: u64, self_test: bool, checks: impl FnOnce(&mut Tally)) -> ExitCode {
+    let mut tally = Tally::new(seed, self_test);
+    if self_test {
+        println!("one bit of each expected value is flipped, so every check has to fail");
+    }
+    checks(&mut tally);
+    let all_passed = tally.summary();
+    let failed = if self_test { tally.all_caught() } else { !all_passed };
+    if failed {
+        ExitCode::FAILURE
+    } else {
+        ExitCode::SUCCESS
+    }
 }
 
-fn self_test(seed: u64) -> Option<ExitCode> {
-    let mut tally = Tally::new(seed, true);
-    println!("one bit of each expected value is flipped, so every check has to fail");
-    run_groups(&mut tally);
-    tally.summary();
-    Some(if tally.all_caught() { ExitCode::FAILURE } else { ExitCode::SUCCESS })
+/// Holds the C calls to the vectors of a file.
+fn hold_file(file: &str, self_test: bool) -> ExitCode {
+    match fs::read_to_string(file) {
+        Ok(text) => run(SEED, self_test, |tally| held::hold(tally, &text)),
+        Err(error) => {
+            eprintln!("{file}: {error}");
+            ExitCode::from(2)
+        }
+    }
 }
 
 fn print_cases(count: usize, seed: u64) -> Option<ExitCode> {

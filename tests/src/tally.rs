@@ -27,7 +27,7 @@ impl Tally {
     }
 
     /// Runs one named group of checks and prints its count.
-    pub fn group(&mut self, name: &'static str, checks: fn(&mut Tally)) {
+    pub fn group(&mut self, name: &'static str, checks: impl FnOnce(&mut Tally)) {
         self.group = name;
         self.passed = 0;
         self.failed = 0;

@@ -1,0 +1,317 @@
+//! Writes `docs/vectors.txt` by the code of these tests alone: vectors for whoever writes a receiver
+//! or a sender of their own.
+
+use crate::cipher::{self, Block};
+use crate::held::LENGTHS;
+use crate::hex::Hex;
+use crate::links::{self, ADDED, BAD_RECORD, LANE, OLD_NUMBER, OTHER_LINK, SHARES, WRONG_TAG};
+use crate::modes;
+use crate::random::Random;
+use crate::shares;
+use crate::vectors::PUBLISHED;
+use std::fmt::Display;
+use std::iter;
+
+/// The remarks at the file's beginning: all that a reader has to know.
+const HEAD: &str = include_str!("document_head.txt");
+
+const TIME_MARK: &[u8] = b"2026-03-02 14:05:09.250 +01:00";
+
+pub fn print() {
+    print!("{HEAD}");
+    blocks(&mut Random::new(1));
+    records(&mut Random::new(2));
+    refused(&mut Random::new(3));
+    shared(&mut Random::new(4));
+}
+
+/// The beginning of a group: a blank line, a remark, its kind and number.
+fn begin(kind: &str, number: usize, remark: &str) {
+    println!("\n# {remark}\n[{kind} {number}]");
+}
+
+fn field(name: &str, value: impl Display) {
+    println!("{}", format!("{name} = {value}").trim_end());
+}
+
+/// Fields of bytes.
+fn fields(of: &[(&str, &[u8])]) {
+    for (name, bytes) in of {
+        field(name, Hex(bytes));
+    }
+}
+
+/// Fields of 16 bytes each, which stand behind one another.
+fn field_blocks(names: &[&str], bytes: &[u8]) {
+    for (name, block) in names.iter().zip(bytes.chunks(16)) {
+        field(name, Hex(block));
+    }
+}
+
+// ---- the cipher alone
+
+fn blocks(random: &mut Random) {
+    let published = PUBLISHED.iter().map(|vector| ("of the paper", vector.blocks()));
+    let others = iter::repeat_with(|| {
+        let (key, plaintext) = (random.block(), random.block());
+        ("random", (key, plaintext, cipher::encrypt(&key, &plaintext)))
+    });
+    for (i, (remark, (key, plaintext, ciphertext))) in published.chain(others.take(8)).enumerate() {
+        begin("block", i + 1, remark);
+        fields(&[("key", &key), ("plaintext", &plaintext), ("ciphertext", &ciphertext)]);
+    }
+}
+
+// ---- records
+
+/// Prints [record] groups; it has the number of the last one.
+struct Records(usize);
+
+impl Records {
+    fn put(&mut self, remark: &str, keys: &[u8], link: u32, sequence: u32, message: &[u8]) {
+        self.0 += 1;
+        begin("record", self.0, remark);
+        field_blocks(&["ke", "km"], keys);
+        field("link", link);
+        field("sequence", sequence);
+        let (ke, km) = links::two_keys(keys);
+        let counter = shares::counter_block(link, sequence, 0);
+        let (k1, k2) = modes::subkeys(|block| cipher::encrypt(&km, block));
+        let record = links::plain_record(keys, link, sequence, message);
+        fields(&[
+            ("message", message),
+            ("counter_block", &counter),
+            ("key_stream", &cipher::encrypt(&ke, &counter)),
+            ("l", &cipher::encrypt(&km, &[0; 16])),
+            ("k1", &k1),
+            ("k2", &k2),
+            ("tag", &record[record.len() - 16..]),
+            ("record", &record),
+        ]);
+    }
+}
+
+fn records(random: &mut Random) {
+    let mut records = Records(0);
+    let keys = Vec::from_iter(0..32);
+    for (i, length) in LENGTHS.into_iter().enumerate() {
+        let remark = format!("the first records of one link: {length} bytes");
+        records.put(&remark, &keys, 1, i as u32 + 1, &random.bytes(length));
+    }
+    records.put("a time mark in ASCII", &random.bytes(32), 7, 1, TIME_MARK);
+    for (link, sequence) in
+        [(0, 1), (0, 2), (u32::MAX, 1), (1, u32::MAX), (u32::MAX, u32::MAX), (0x0102_0304, 0x0506_0708)]
+    {
+        let remark = format!("link number {link:08x}, sequence number {sequence:08x}, hexadecimal");
+        records.put(&remark, &random.bytes(32), link, sequence, &random.bytes(20));
+    }
+    records.put("all bits 0 but the sequence number's last", &[0; 32], 0, 1, &[0; 16]);
+    records.put("all bits 1", &[0xff; 32], u32::MAX, u32::MAX, &[0xff; 33]);
+    for length in [2, 14, 48, 64, 100, 128, 200] {
+        let (link, sequence) = (random.number() as u32, random.number() as u32);
+        records.put(
+            &format!("random, {length} bytes"),
+            &random.bytes(32),
+            link,
+            sequence,
+            &random.bytes(length),
+        );
+    }
+}
+
+// ---- records that are refused
+
+/// Prints [refused] groups of a receiver with these keys and this number.
+struct Refusals {
+    keys: Vec<u8>,
+    link: u32,
+    count: usize,
+}
+
+impl Refusals {
+    fn put(&mut self, remark: &str, last: u32, record: &[u8], answer: u32) {
+        let mut link = links::link(self.link, last, &self.keys);
+        let mut message = vec![0; record.len().saturating_sub(ADDED)];
+        assert_eq!(links::open(&mut link, record, &mut message), answer, "{remark}");
+        self.count += 1;
+        begin("refused", self.count, remark);
+        field_blocks(&["ke", "km"], &self.keys);
+        field("link", self.link);
+        field("last", last);
+        field("record", Hex(record));
+        field("answer", answer);
+        field("words", words(answer));
+    }
+}
+
+fn words(answer: u32) -> &'static str {
+    match answer {
+        BAD_RECORD => "a record has 24 to 280 bytes",
+        OTHER_LINK => "the record is for another link",
+        WRONG_TAG => "wrong tag: damaged, forged or under another key",
+        OLD_NUMBER => "this number or a later one was accepted before",
+        _ => panic!("no refusal of a record"),
+    }
+}
+
+/// A record with one bit flipped: bit 0 is the highest of byte 0.
+fn flipped(record: &[u8], bit: usize) -> Vec<u8> {
+    let mut record = record.to_vec();
+    record[bit / 8] ^= 0x80 >> (bit % 8);
+    record
+}
+
+/// A record with another tag.
+fn retagged(record: &[u8], tag: &[u8]) -> Vec<u8> {
+    [&record[..record.len() - 16], tag].concat()
+}
+
+fn refused(random: &mut Random) {
+    const LINK: u32 = 0x0102_0304;
+    const LAST: u32 = 5;
+    let keys = random.bytes(32);
+    let mut refusals = Refusals { keys: keys.clone(), link: LINK, count: 0 };
+    let sealed = |link: u32, sequence: u32| links::plain_record(&keys, link, sequence, TIME_MARK);
+    let good = sealed(LINK, LAST + 1);
+    let bits = 8 * good.len();
+
+    for (remark, record) in [
+        ("the first bit of the tag is flipped", flipped(&good, bits - 128)),
+        ("the last bit of the tag is flipped", flipped(&good, bits - 1)),
+        ("the first bit of the ciphertext is flipped", flipped(&good, 64)),
+        ("the last bit of the ciphertext is flipped", flipped(&good, bits - 129)),
+        ("the last bit of the sequence number is flipped, it is still above the last", flipped(&good, 63)),
+        ("the first byte of the ciphertext is missing", [&good[..8], &good[9..]].concat()),
+        ("the last byte of the tag is missing", good[..good.len() - 1].to_vec()),
+        ("the tag is zeros", retagged(&good, &[0; 16])),
+    ] {
+        refusals.put(remark, LAST, &record, WRONG_TAG);
+    }
+    for (remark, record) in wrongly_tagged(&keys, LINK, LAST + 1) {
+        refusals.put(remark, LAST, &record, WRONG_TAG);
+    }
+
+    let other = sealed(LINK + 1, LAST + 1);
+    refusals.put("a good record for another link", LAST, &other, OTHER_LINK);
+    refusals.put("the last bit of the link number is flipped", LAST, &flipped(&good, 31), OTHER_LINK);
+    let worse = flipped(&sealed(LINK + 1, LAST), bits - 1);
+    refusals.put("another link, the last number and a flipped bit of the tag", LAST, &worse, OTHER_LINK);
+
+    refusals.put("a good record with the last number: a replay", LAST, &sealed(LINK, LAST), OLD_NUMBER);
+    refusals.put("a good record with an older number", LAST, &sealed(LINK, 1), OLD_NUMBER);
+    refusals.put("a good record with number 0 on a new link", 0, &sealed(LINK, 0), OLD_NUMBER);
+    let half = 1 << 31;
+    refusals.put("an older number, by the highest bit", half, &sealed(LINK, half - 1), OLD_NUMBER);
+    refusals.put("no number is above the last", u32::MAX, &sealed(LINK, u32::MAX), OLD_NUMBER);
+    let damaged = flipped(&sealed(LINK, LAST), bits - 1);
+    refusals.put("the last number and a flipped bit of the tag", LAST, &damaged, OLD_NUMBER);
+
+    let empty = links::plain_record(&keys, LINK, LAST + 1, &[]);
+    let long = links::plain_record(&keys, LINK, LAST + 1, &random.bytes(257));
+    refusals.put("no bytes", LAST, &[], BAD_RECORD);
+    refusals.put("the first 23 bytes of a good record of 24", LAST, &empty[..23], BAD_RECORD);
+    refusals.put("the first 23 bytes of a record for another link", LAST, &other[..23], BAD_RECORD);
+    refusals.put("a message of 257 bytes, sealed in the same way", LAST, &long, BAD_RECORD);
+}
+
+/// Records as a sender makes them who has misread the definition.
+fn wrongly_tagged(keys: &[u8], link: u32, sequence: u32) -> [(&'static str, Vec<u8>); 4] {
+    let (ke, km) = links::two_keys(keys);
+    let encrypt = |block: &Block| cipher::encrypt(&km, block);
+    let good = links::plain_record(keys, link, sequence, TIME_MARK);
+    let head = &good[..good.len() - 16];
+    let exchanged = links::plain_record(&[km, ke].concat(), link, sequence, TIME_MARK);
+    let empty = links::plain_record(keys, link, sequence, &[]);
+    let counter = shares::counter_block(link, sequence, 0);
+    let (_, k2) = modes::subkeys(encrypt);
+    let by_k2 = encrypt(&modes::xor_blocks(&counter, &k2));
+    [
+        ("the tag is made of the ciphertext alone", retagged(&good, &modes::cmac(encrypt, &head[8..]))),
+        ("the tag is made of the record's bytes before it", retagged(&good, &modes::cmac(encrypt, head))),
+        ("KE and KM are exchanged", exchanged),
+        ("an empty message, and K2 is used for its tag", retagged(&empty, &by_k2)),
+    ]
+}
+
+// ---- sealing on shares
+
+/// A tape by the rule of the head.
+fn tape(seed: u32, length: usize) -> Vec<u8> {
+    let mut x = seed;
+    let next = || {
+        x = x.wrapping_mul(1_664_525).wrapping_add(1_013_904_223);
+        (x >> 24) as u8
+    };
+    iter::repeat_with(next).take(length).collect()
+}
+
+/// A keyed sender, and a message and a tape for it.
+struct Shared {
+    keys: Vec<u8>,
+    link: u32,
+    last: u32,
+    message: Vec<u8>,
+    seed: u32,
+}
+
+impl Shared {
+    fn put(&self, number: usize, remark: &str) {
+        let Shared { keys, link, last, message, seed } = self;
+        begin("shared", number, remark);
+        field_blocks(&["ke_0", "ke_1", "ke_2", "km_0", "km_1", "km_2"], keys);
+        field("link", link);
+        field("last", last);
+        field("message", Hex(message));
+
+        let tape = tape(*seed, shares::tape_need(message.len()));
+        let sender = links::link(*link, *last, keys);
+        let mut record = vec![0; message.len() + ADDED];
+        let mut tag = [0; SHARES];
+        assert_eq!(links::seal(&mut sender.clone(), message, &tape, &mut record, &mut tag), 0);
+        field("seed", seed);
+        fields(&[("tape_first", &tape[..16]), ("tape_last", &tape[tape.len() - 16..])]);
+        field("tape_count", u32::from_be_bytes(tag[48..].try_into().unwrap()));
+        field("record", Hex(&record));
+        field_blocks(&["tag_0", "tag_1", "tag_2"], &tag[..48]);
+        self.put_lanes(&sender, &tape);
+    }
+
+    /// Lanes of the first round and of the last, in the first call, that of the subkeys and the last.
+    fn put_lanes(&self, sender: &[u8], tape: &[u8]) {
+        let last = shares::call_count(self.message.len()) as u32;
+        let mut calls = vec![1, last / 2, last];
+        calls.dedup();
+        for call in calls {
+            for round in [1, 35] {
+                for lane in 0..3 {
+                    let mut out = [0; LANE];
+                    let answer = links::report(sender, &self.message, tape, call, round, lane, &mut out);
+                    assert_eq!(answer, 0);
+                    field(&format!("lane {call} {round} {lane}"), Hex(&out));
+                }
+            }
+        }
+    }
+}
+
+fn shared(random: &mut Random) {
+    let keys = Vec::from_iter(0..96);
+    let message = TIME_MARK.to_vec();
+    Shared { keys, link: 1, last: 0, message, seed: 1 }.put(1, "a time mark in ASCII");
+    for (i, (length, link, last)) in [
+        (0, 2, 0),
+        (1, 0, 1),
+        (15, u32::MAX, 2),
+        (16, 0x0102_0304, 0x0506_0707),
+        (17, 1, u32::MAX - 1),
+        (33, 3, 0xffff),
+        (256, u32::MAX, 0x7fff_ffff),
+    ]
+    .into_iter()
+    .enumerate()
+    {
+        let (keys, message) = (random.bytes(96), random.bytes(length));
+        let seed = random.number() as u32;
+        Shared { keys, link, last, message, seed }.put(i + 2, &format!("random, {length} bytes"));
+    }
+}

@@ -1,0 +1,209 @@
+//! Holds the C calls to a file of vectors, as somebody would who has that file alone: expected values
+//! are those of the file.
+
+use crate::blocks::hold_both_ways;
+use crate::groups::{self, Group};
+use crate::keying::{Key, Side, RECEIVING, SENDING};
+use crate::lanes::Report;
+use crate::lent::hold_as;
+use crate::links::{self, BAD_RECORD, LANE, OLD_NUMBER, OTHER_LINK, SHARES, WRONG_TAG};
+use crate::modes;
+use crate::opening::Open;
+use crate::plain::SealPlain;
+use crate::sealing::Seal;
+use crate::shares;
+use crate::tally::Tally;
+use std::ffi::{c_char, CStr};
+
+extern "C" {
+    /// `rasppuce_meaning` of the header, by way of `meaning.c`.
+    fn words_of_answer(answer: u32) -> *const c_char;
+}
+
+/// What the file has to have: records with messages of these lengths, and these refusals.
+pub const LENGTHS: [usize; 10] = [0, 1, 15, 16, 17, 31, 32, 33, 255, 256];
+const REFUSALS: [u32; 4] = [BAD_RECORD, OTHER_LINK, OLD_NUMBER, WRONG_TAG];
+
+type Checks = fn(&mut Tally, &Group) -> Result<(), String>;
+
+/// How the groups of each kind are held.
+const KINDS: [(&str, Checks); 4] =
+    [("block", block), ("record", record), ("refused", refused), ("shared", shared)];
+
+/// Holds the C calls to every group of a file, and the file to what it has to have.
+pub fn hold(tally: &mut Tally, text: &str) {
+    let groups = match groups::read(text) {
+        Ok(groups) => groups,
+        Err(flaw) => return tally.group("form", |tally| fail(tally, &flaw)),
+    };
+    tally.group("what has to be there", |tally| enough(tally, &groups));
+    for (kind, checks) in KINDS {
+        tally.group(kind, |tally| {
+            for group in groups.iter().filter(|group| group.kind == kind) {
+                checks(tally, group).unwrap_or_else(|flaw| fail(tally, &flaw));
+            }
+        });
+    }
+}
+
+/// A check that fails for a flaw of the file.
+fn fail(tally: &mut Tally, flaw: &str) {
+    tally.same_flag(format_args!("{flaw}"), false, true);
+}
+
+fn enough(tally: &mut Tally, groups: &[Group]) {
+    let has = |kind: &str, wanted: &dyn Fn(&Group) -> bool| {
+        groups.iter().any(|group| group.kind == kind && wanted(group))
+    };
+    tally.same_flag(format_args!("a block"), has("block", &|_| true), true);
+    for length in LENGTHS {
+        let found = has("record", &|group| group.bytes("message").is_ok_and(|bytes| bytes.len() == length));
+        tally.same_flag(format_args!("a record with a message of {length} bytes"), found, true);
+    }
+    for answer in REFUSALS {
+        let found = has("refused", &|group| group.number("answer") == Ok(answer));
+        tally.same_flag(format_args!("a record refused with {answer}"), found, true);
+    }
+    let found = has("shared", &|group| group.lanes().is_ok_and(|lanes| !lanes.is_empty()));
+    tally.same_flag(format_args!("a sealing on shares with a lane"), found, true);
+}
+
+/// An output before a call.
+fn room(length: usize) -> Vec<u8> {
+    vec![0xee; length]
+}
+
+/// A link that was all zeros, as the C call keys it.
+fn keyed(tally: &mut Tally, side: &'static Side, number: u32, keys: &[u8]) -> Vec<u8> {
+    let link = links::link(number, 0, keys);
+    let before = Key { side, link: vec![0; link.len()], number, keys: keys.to_vec() };
+    hold_as(tally, &before, 0, &Key { link, ..before.clone() }, 0).left.link
+}
+
+// ---- the cipher alone
+
+fn block(tally: &mut Tally, group: &Group) -> Result<(), String> {
+    let (plaintext, ciphertext) = (group.block("plaintext")?, group.block("ciphertext")?);
+    hold_both_ways(tally, &group.block("key")?, &plaintext, &ciphertext, group.number);
+    Ok(())
+}
+
+// ---- records
+
+fn record(tally: &mut Tally, group: &Group) -> Result<(), String> {
+    let keys = [group.block("ke")?, group.block("km")?].concat();
+    let (number, sequence) = (group.number("link")?, group.number("sequence")?);
+    let (message, record) = (group.bytes("message")?, group.bytes("record")?);
+    let before = SealPlain { keys, number, sequence, message, record: room(record.len()) };
+    let after = SealPlain { record, ..before.clone() };
+    hold_as(tally, &before, 0, &after, group.number);
+    hold_opened(tally, &after, group.number);
+    hold_steps(tally, group, &after)
+}
+
+/// A receiver opens the record, and refuses it the second time.
+fn hold_opened(tally: &mut Tally, sealed: &SealPlain, shift: usize) {
+    let SealPlain { keys, number, sequence, message, record } = sealed;
+    let link = keyed(tally, &RECEIVING, *number, keys);
+    let before = Open { link, record: record.clone(), message: room(message.len()) };
+    let link = links::link(*number, *sequence, keys);
+    let after = Open { link, message: message.clone(), ..before.clone() };
+    let opened = hold_as(tally, &before, 0, &after, shift).left;
+    let again = Open { message: room(message.len()), ..opened };
+    hold_as(tally, &again, OLD_NUMBER, &again, shift);
+}
+
+/// The steps between the keys and the record, by the block calls and the record itself.
+fn hold_steps(tally: &mut Tally, group: &Group, sealed: &SealPlain) -> Result<(), String> {
+    let what = format!("record {}", group.number);
+    let (ke, km) = links::two_keys(&sealed.keys);
+    let (counter, stream) = (group.block("counter_block")?, group.block("key_stream")?);
+    let expected = shares::counter_block(sealed.number, sealed.sequence, 0);
+    tally.same(format_args!("counter_block, {what}"), &counter, &expected);
+    hold_both_ways(tally, &ke, &counter, &stream, group.number);
+    let first = modes::xor(&stream, &sealed.message);
+    let in_record = sealed.record.get(8..8 + first.len()).unwrap_or(&[]);
+    tally.same(format_args!("ciphertext by key_stream, {what}"), &first, in_record);
+
+    let (l, k1, k2) = (group.block("l")?, group.block("k1")?, group.block("k2")?);
+    hold_both_ways(tally, &km, &[0; 16], &l, group.number);
+    tally.same(format_args!("k1, {what}"), &k1, &modes::doubled(&l));
+    tally.same(format_args!("k2, {what}"), &k2, &modes::doubled(&k1));
+    hold_tag(tally, &what, &group.block("tag")?, &sealed.record);
+    Ok(())
+}
+
+fn hold_tag(tally: &mut Tally, what: &str, tag: &[u8], record: &[u8]) {
+    let at = record.len().saturating_sub(16);
+    tally.same(format_args!("tag, {what}"), tag, &record[at..]);
+}
+
+fn refused(tally: &mut Tally, group: &Group) -> Result<(), String> {
+    let keys = [group.block("ke")?, group.block("km")?].concat();
+    let mut link = keyed(tally, &RECEIVING, group.number("link")?, &keys);
+    links::set_last(&mut link, group.number("last")?);
+    let record = group.bytes("record")?;
+    let message = room(record.len().saturating_sub(links::ADDED));
+    let answer = group.number("answer")?;
+    let call = Open { link, record, message };
+    hold_as(tally, &call, answer, &call, group.number);
+    // The call returns a string that lasts.
+    let words = unsafe { CStr::from_ptr(words_of_answer(answer)) };
+    tally.same(format_args!("words of {answer}"), words.to_bytes(), group.text("words")?.as_bytes());
+    let is_refusal = REFUSALS.contains(&answer);
+    tally.same_flag(format_args!("{answer} is a refusal of a record"), is_refusal, true);
+    Ok(())
+}
+
+// ---- sealing on shares
+
+/// A tape by the rule as the head of the file states it.
+fn tape(seed: u32, length: usize) -> Vec<u8> {
+    let mut x = vec![u64::from(seed)];
+    for i in 0..length {
+        x.push((1_664_525 * x[i] + 1_013_904_223) % 4_294_967_296);
+    }
+    (0..length).map(|i| (x[i + 1] / 16_777_216) as u8).collect()
+}
+
+fn shared(tally: &mut Tally, group: &Group) -> Result<(), String> {
+    let what = format!("shared {}", group.number);
+    let blocks = |names: &[&str]| -> Result<Vec<u8>, String> {
+        Ok(names.iter().map(|name| group.block(name)).collect::<Result<Vec<_>, _>>()?.concat())
+    };
+    let keys = blocks(&["ke_0", "ke_1", "ke_2", "km_0", "km_1", "km_2"])?;
+    let tag_shares = blocks(&["tag_0", "tag_1", "tag_2"])?;
+    let (number, last) = (group.number("link")?, group.number("last")?);
+    let sequence = last.checked_add(1).ok_or(format!("{what}: no number is left"))?;
+    let (message, record) = (group.bytes("message")?, group.bytes("record")?);
+    let tape = tape(group.number("seed")?, shares::tape_need(message.len()));
+    tally.same(format_args!("tape_first, {what}"), &tape[..16], &group.block("tape_first")?);
+    tally.same(format_args!("tape_last, {what}"), &tape[tape.len() - 16..], &group.block("tape_last")?);
+
+    let mut link = keyed(tally, &SENDING, number, &keys);
+    links::set_last(&mut link, last);
+    let before = Seal { link, message, tape, record: room(record.len()), shares: room(SHARES) };
+    let written = [&tag_shares[..], &group.number("tape_count")?.to_be_bytes()].concat();
+    let link = links::link(number, sequence, &keys);
+    let after = Seal { link, record, shares: written, ..before.clone() };
+    hold_as(tally, &before, 0, &after, group.number);
+    hold_lanes(tally, group, &before)?;
+
+    let [a, b, c] = std::array::from_fn(|i| &tag_shares[16 * i..16 * i + 16]);
+    hold_tag(tally, &what, &modes::xor(&modes::xor(a, b), c), &after.record);
+    let keys = links::joined_keys(&keys);
+    let Seal { message, record, .. } = after;
+    hold_opened(tally, &SealPlain { keys, number, sequence, message, record }, group.number);
+    Ok(())
+}
+
+/// The report of the sealing shows the lanes.
+fn hold_lanes(tally: &mut Tally, group: &Group, seal: &Seal) -> Result<(), String> {
+    let Seal { link, message, tape, .. } = seal.clone();
+    let report = Report { link, message, tape, call: 0, round: 0, lane: 0, out: room(LANE) };
+    for ([call, round, lane], out) in group.lanes()? {
+        let before = Report { call, round, lane, ..report.clone() };
+        hold_as(tally, &before, 0, &Report { out, ..before.clone() }, group.number);
+    }
+    Ok(())
+}
