@@ -5,6 +5,7 @@
  */
 #include "baseline.h"
 #include "bench.h"
+#include "random.h"
 #include "rasppuce.h"
 
 #include <stdio.h>
@@ -19,27 +20,11 @@ enum {
     RECORD = RASPPUCE_RECORD_MOST + 2
 };
 
-/* ---- random bytes (splitmix64) */
-
-static uint64_t random_state = 0x0123456789abcdef;
-
-static uint64_t random_number(void)
-{
-    uint64_t z = random_state += 0x9e3779b97f4a7c15;
-    z = (z ^ (z >> 30)) * 0xbf58476d1ce4e5b9;
-    z = (z ^ (z >> 27)) * 0x94d049bb133111eb;
-    return z ^ (z >> 31);
-}
+/* ---- random choices */
 
 static size_t random_below(size_t n)
 {
     return (size_t)(random_number() % n);
-}
-
-static void random_bytes(uint8_t *bytes, size_t length)
-{
-    for (size_t i = 0; i < length; i++)
-        bytes[i] = (uint8_t)(random_number() >> 56);
 }
 
 /* A number that is small once in a while, and 0 at times. */

@@ -13,6 +13,7 @@
 #define _XOPEN_SOURCE 700
 #include "bench.h"
 #include "packed.h"
+#include "random.h"
 #include "rasppuce.h"
 #include "recipe.h" /* wipe_stack, as rasppuce.h shows it: bench/sizes takes it from there */
 
@@ -53,23 +54,6 @@ static void require(int holds, const char *sentence)
         return;
     complain("%s", sentence);
     exit(1);
-}
-
-/* ---- random bytes (splitmix64), the same in each run */
-
-static uint64_t random_number(void)
-{
-    static uint64_t state = 0x0123456789abcdef;
-    uint64_t z = state += 0x9e3779b97f4a7c15;
-    z = (z ^ (z >> 30)) * 0xbf58476d1ce4e5b9;
-    z = (z ^ (z >> 27)) * 0x94d049bb133111eb;
-    return z ^ (z >> 31);
-}
-
-static void random_bytes(uint8_t *bytes, size_t len)
-{
-    for (size_t i = 0; i < len; i++)
-        bytes[i] = (uint8_t)(random_number() >> 56);
 }
 
 /* ---- secrets */
