@@ -1,13 +1,15 @@
 -- A refusal's number is that of the first cause that applies, and of no other; an answer accepts where none applies.
 -- Assumes nothing.
 use mathlib.Core.Path.{_≡_, refl, sym, ap, _∙_, subst}
-use mathlib.Core.Bool.{Bool, true, false, cond}
+use mathlib.Core.Bool.{Bool, true, false, not, cond}
 use mathlib.Core.List.{List, [], _∷_}
 use mathlib.Core.Logic.{_↔_}
-use Prim.Native.Nat.{ℕ, zero, suc}
+use Prim.Native.Nat.{ℕ, zero, suc, _≤_, _<_}
 use native.Mathlib.Omega.{arith}
-use lib.Dec.{T}
-use Rattle.answers.specs.Answer.{Answer, done, refused, Cause, _when_, first, numberOf, Accepts, ifDone, FirstOf, here, later, NoneOf, numbered}
+use lib.Dec.{T, eqb, leb, ltb}
+use lib.ListN.{take, drop}
+use borrow.Author.Tests.{eq-eqb, ne-eqb, lt-ltb, le-ltb, le-leb, lt-leb}
+use Rattle.answers.specs.Answer.{Answer, done, refused, Cause, _when_, first, numberOf, Accepts, ifDone, FirstOf, here, later, NoneOf}
 
 refused-first : (n : ℕ) (cs : List Cause) (a : Answer) → FirstOf n cs → first cs a ≡ refused n
 refused-first n cs a (here {b = true} t) = refl
@@ -24,13 +26,43 @@ first-refused n ((m when false) ∷ cs) vs e = later tt (first-refused n cs vs e
 pub refused-exactly : (n : ℕ) (cs : List Cause) (vs : List ℕ) → first cs (done vs) ≡ refused n ↔ FirstOf n cs
 refused-exactly n cs vs = (first-refused n cs vs, refused-first n cs (done vs))
 
+-- ---- the cause at place k, from 0, is the first that applies
+
+-- it applies; its number
+abbrev pub Applies : ℕ → List Cause → Type 0
+Applies k [] = ⊥
+Applies zero ((n when b) ∷ cs) = b ≡ true
+Applies (suc k) ((n when b) ∷ cs) = Applies k cs
+
+abbrev pub numberAt : ℕ → List Cause → ℕ
+numberAt k [] = 0
+numberAt zero ((n when b) ∷ cs) = n
+numberAt (suc k) ((n when b) ∷ cs) = numberAt k cs
+
+pub refused-at : (k : ℕ) (cs : List Cause) (a : Answer) → NoneOf (take k cs) → Applies k cs → first cs a ≡ refused (numberAt k cs)
+refused-at k [] a h e = absurd e
+refused-at zero ((n when b) ∷ cs) a h e = ap (λ (t : Bool). cond t (refused n) (first cs a)) e
+refused-at (suc k) ((n when b) ∷ cs) a h e = ap (λ (t : Bool). cond t (refused n) (first cs a)) (h .0) ∙ refused-at k cs a (h .1) e
+
 -- ---- the work is done exactly where no cause applies
 
 pub done-none : (cs : List Cause) (a : Answer) → NoneOf cs → first cs a ≡ a
 done-none [] a h = refl
 done-none ((n when b) ∷ cs) a h = ap (λ (t : Bool). cond t (refused n) (first cs a)) (h .0) ∙ done-none cs a (h .1)
 
+-- none of the first k applies, and none behind them
+pub none-both : (k : ℕ) (cs : List Cause) → NoneOf (take k cs) → NoneOf (drop k cs) → NoneOf cs
+none-both zero cs h l = l
+none-both (suc k) [] h l = tt
+none-both (suc k) ((n when b) ∷ cs) h l = (h .0, none-both k cs (h .1) l)
+
 -- ---- an answer's number tells whether the work was done
+
+-- no cause has the number 0
+abbrev pub numbered : List Cause → Bool
+numbered [] = true
+numbered ((zero when b) ∷ cs) = false
+numbered ((suc n when b) ∷ cs) = numbered cs
 
 pub accepts-none : (cs : List Cause) (vs : List ℕ) → T (numbered cs) → Accepts (first cs (done vs)) → NoneOf cs
 accepts-none [] vs h e = tt
@@ -61,3 +93,32 @@ if-done e x y = ap (λ (a : Answer). ifDone a x y) (sym e)
 
 pub if-refused {ℓ} : {A : Type ℓ} {a : Answer} {n : ℕ} → a ≡ refused n → (x y : A) → y ≡ ifDone a x y
 if-refused e x y = ap (λ (a : Answer). ifDone a x y) (sym e)
+
+-- the equations of an entry whose answer a is b: it says b, and leaves one thing, two or three as that answer leaves them
+pub leaves-one {ℓ} : {A : Type ℓ} {a b s : Answer} → a ≡ b → s ≡ b → (x y : A) {t : A} → t ≡ ifDone b x y → (s ≡ a) × (t ≡ ifDone a x y)
+leaves-one e d x y p = (d ∙ sym e, p ∙ ap (λ (a : Answer). ifDone a x y) (sym e))
+
+pub leaves-two {ℓ ℓ′} : {A : Type ℓ} {B : Type ℓ′} {a b s : Answer} → a ≡ b → s ≡ b
+    → (x y : A) {t : A} → t ≡ ifDone b x y → (z w : B) {u : B} → u ≡ ifDone b z w → (s ≡ a) × ((t ≡ ifDone a x y) × (u ≡ ifDone a z w))
+leaves-two e d x y p z w q = (d ∙ sym e, (leaves-one e d x y p .1, leaves-one e d z w q .1))
+
+pub leaves-three {ℓ ℓ′ ℓ″} : {A : Type ℓ} {B : Type ℓ′} {C : Type ℓ″} {a b s : Answer} → a ≡ b → s ≡ b
+    → (x y : A) {t : A} → t ≡ ifDone b x y → (z w : B) {u : B} → u ≡ ifDone b z w → (j k : C) {v : C} → v ≡ ifDone b j k
+    → (s ≡ a) × ((t ≡ ifDone a x y) × ((u ≡ ifDone a z w) × (v ≡ ifDone a j k)))
+leaves-three e d x y p z w q j k r = (d ∙ sym e, (leaves-one e d x y p .1, leaves-two e d z w q j k r .1))
+
+-- ---- a test's value, from the fact that it tests
+
+pub eq-not : (a b : ℕ) → a ≡ b → not (eqb a b) ≡ false
+eq-not a b h = ap not (eq-eqb a b h)
+
+pub ne-not : (a b : ℕ) → (a ≡ b → ⊥) → not (eqb a b) ≡ true
+ne-not a b h = ap not (ne-eqb a b h)
+
+pub lt-not : (a b : ℕ) → a < b → not (ltb a b) ≡ false
+lt-not a b h = ap not (lt-ltb a b h)
+
+pub le-not : (a b : ℕ) → b ≤ a → not (ltb a b) ≡ true
+le-not a b h = ap not (le-ltb a b h)
+
+pub ruleset tests = (eq-eqb, ne-eqb, lt-ltb, le-ltb, le-leb, lt-leb, eq-not, ne-not, lt-not, le-not)

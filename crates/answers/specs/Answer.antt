@@ -2,7 +2,7 @@
 use mathlib.Core.Path.{_≡_}
 use mathlib.Core.Bool.{Bool, true, false, not, cond}
 use mathlib.Core.List.{List, [], _∷_}
-use Prim.Native.Nat.{ℕ, zero, suc}
+use Prim.Native.Nat.{ℕ}
 use lib.Dec.{T}
 use Rattle.blocks.specs.Put.{put}
 
@@ -52,9 +52,3 @@ pub data FirstOf (n : ℕ) : List Cause → Type 0 where
 abbrev pub NoneOf : List Cause → Type 0
 NoneOf [] = Unit {0}
 NoneOf ((n when b) ∷ cs) = (b ≡ false) × NoneOf cs
-
--- no cause has the number 0
-abbrev pub numbered : List Cause → Bool
-numbered [] = true
-numbered ((zero when b) ∷ cs) = false
-numbered ((suc n when b) ∷ cs) = numbered cs

@@ -9,8 +9,10 @@ use Rattle.bits.proofs.Test.{four, four-bits, agree₄}
 use Rattle.blocks.specs.Bytes.{Block, _⊕_}
 use Rattle.blocks.specs.Bits.{bitAt, eachCell}
 use Rattle.blocks.proofs.Xor.{⊕-block, ⊕-again}
-use Rattle.blocks.proofs.ByBits.{blockOf-bits, blockOf-cells, bit-cells, cells-same, rearranged-twice, rearranged-same, rearranged-block, eachCell-block}
-use Rattle.baksheesh.specs.Baksheesh.{rounds, sbox, invSbox, to, from, subCells, invSubCells, permBits, invPermBits, rotated, constant, round, invRound, after, before, encrypt, decrypt}
+use Rattle.blocks.proofs.ByBits.{blockOf-bits, blockOf-cells, bit-cells, cells-same, eachCell-block}
+use Rattle.blocks.proofs.ByBits.{rearranged-twice, rearranged-same, rearranged-block}
+use Rattle.baksheesh.specs.Baksheesh.{rounds, sbox, invSbox, to, from, subCells, invSubCells, permBits, invPermBits}
+use Rattle.baksheesh.specs.Baksheesh.{rotated, constant, round, invRound, after, before, encrypt, decrypt}
 use Rattle.baksheesh.proofs.Steps.{at-inside, from-to, to-from, constant-block, after-block}
 
 -- ---- cells
@@ -35,12 +37,16 @@ cells-undo f g t₀ t₁ t₂ t₃ b w =
     y c j = f j (x c 0) (x c 1) (x c 2) (x c 3)
 
     go : (c j : ℕ) → c < 32 → j < 4
-        → g j (bitAt (eachCell f b) (4 * c + 0)) (bitAt (eachCell f b) (4 * c + 1)) (bitAt (eachCell f b) (4 * c + 2)) (bitAt (eachCell f b) (4 * c + 3)) ≡ x c j
+        → g j (bitAt (eachCell f b) (4 * c + 0)) (bitAt (eachCell f b) (4 * c + 1)) (bitAt (eachCell f b) (4 * c + 2))
+        (bitAt (eachCell f b) (4 * c + 3)) ≡ x c j
     go c j h l =
-        simp (bit-cells y c 0 h (omega arith), bit-cells y c 1 h (omega arith), bit-cells y c 2 h (omega arith), bit-cells y c 3 h (omega arith))
+        let e = bit-cells y c in
+        simp (e 0 h (omega arith), e 1 h (omega arith), e 2 h (omega arith), e 3 h (omega arith))
         (four (λ j. thenOf f g j (x c 0) (x c 1) (x c 2) (x c 3) ≡ x c j)
-        (four-bits (thenOf f g 0) (λ a b c d. a) t₀ (x c 0) (x c 1) (x c 2) (x c 3)) (four-bits (thenOf f g 1) (λ a b c d. b) t₁ (x c 0) (x c 1) (x c 2) (x c 3))
-        (four-bits (thenOf f g 2) (λ a b c d. c) t₂ (x c 0) (x c 1) (x c 2) (x c 3)) (four-bits (thenOf f g 3) (λ a b c d. d) t₃ (x c 0) (x c 1) (x c 2) (x c 3)) j l)
+        (four-bits (thenOf f g 0) (λ a b c d. a) t₀ (x c 0) (x c 1) (x c 2) (x c 3))
+        (four-bits (thenOf f g 1) (λ a b c d. b) t₁ (x c 0) (x c 1) (x c 2) (x c 3))
+        (four-bits (thenOf f g 2) (λ a b c d. c) t₂ (x c 0) (x c 1) (x c 2) (x c 3))
+        (four-bits (thenOf f g 3) (λ a b c d. d) t₃ (x c 0) (x c 1) (x c 2) (x c 3)) j l)
 
 sub-undone : (b : List ℕ) → Block b → invSubCells (subCells b) ≡ b
 sub-undone = cells-undo sbox invSbox tt tt tt tt

@@ -13,7 +13,8 @@ use Rattle.blocks.specs.Bytes.{Block, _⊕_}
 use Rattle.blocks.specs.Bits.{bitAt}
 use Rattle.blocks.proofs.ByBits.{isBlock, bit-rearranged, rearranged-twice, rearranged-same, rearranged-block}
 use Rattle.blocks.proofs.Xor.{⊕-block}
-use Rattle.baksheesh.specs.Baksheesh.{sboxTable, invSboxTable, sbox, invSbox, cellOf, permTable, to, from, permBits, constant, rotated, round, after}
+use Rattle.baksheesh.specs.Baksheesh.{sboxTable, invSboxTable, sbox, invSbox, cellOf}
+use Rattle.baksheesh.specs.Baksheesh.{permTable, to, from, permBits, constant, rotated, round, after}
 
 -- ---- SubCells
 

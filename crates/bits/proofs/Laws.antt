@@ -2,7 +2,8 @@
 use mathlib.Core.Path.{_≡_, refl, sym, ap, ap₂, _∙_}
 use mathlib.Core.Bool.{Bool, true, false, not, _&&_, and-comm}
 use Prim.Native.Nat.{ℕ, zero, suc, _+_, _-_, _*_, _/_, _%_, _^_, _<_}
-use native.Mathlib.Nat.{lt-of-lt-of-le, mod-lt, zero-lt-suc, le-of-suc-le-suc, not-suc-le-zero, div-eq-of-lt, div-add-mod', mul-assoc, pow-suc, div-one}
+use native.Mathlib.Nat.{lt-of-lt-of-le, mod-lt, zero-lt-suc, le-of-suc-le-suc, not-suc-le-zero, div-eq-of-lt, div-add-mod', mul-assoc}
+use native.Mathlib.Nat.{pow-suc, div-one}
 use native.Mathlib.Omega.{arith}
 use native.Mathlib.Numerals.{add-one, one-add}
 use lib.Dec.{eqb}
@@ -64,7 +65,8 @@ pub bit-shl-low : (x n i : ℕ) → i < n → bit (x * 2 ^ n) i ≡ false
 unfolding bit
 bit-shl-low x n i h =
     ap (λ (m : ℕ). odd (x * 2 ^ m / 2 ^ i)) cut
-    ∙ ap (λ (m : ℕ). odd (m / 2 ^ i)) (ap (λ (m : ℕ). x * m) (pow-add 2 (suc d) i) ∙ sym (mul-assoc x (2 ^ suc d) (2 ^ i)))
+    ∙ ap (λ (m : ℕ). odd (m / 2 ^ i))
+    (ap (λ (m : ℕ). x * m) (pow-add 2 (suc d) i) ∙ sym (mul-assoc x (2 ^ suc d) (2 ^ i)))
     ∙ ap odd (shl-shr (x * 2 ^ suc d) i)
     ∙ ap (λ (m : ℕ). eqb m 1) (shifted-even x d)
   where
@@ -125,7 +127,8 @@ pub number-bits : (n x : ℕ) → x < 2 ^ n → number n (bit x) ≡ x
 number-bits zero x h = sym (lt-one h)
 number-bits (suc n) x h =
     ap₂ (λ (a b : ℕ). a * 2 + b)
-    (number-same n (λ i. bit x (suc i)) (bit (x / 2)) (λ i _. bit-suc x i) ∙ number-bits n (x / 2) (shr-lt n 1 (rw add-one h)))
+    (number-same n (λ i. bit x (suc i)) (bit (x / 2)) (λ i _. bit-suc x i)
+    ∙ number-bits n (x / 2) (shr-lt n 1 (rw add-one h)))
     (ap digit (bit-first x) ∙ digit-odd x)
     ∙ div-add-mod' x 2
 
@@ -155,6 +158,15 @@ pub ⊻-comm : (a b : Bool) → (a ⊻ b) ≡ (b ⊻ a)
 
 pub ⊻-left-comm : (a b c : Bool) → (a ⊻ (b ⊻ c)) ≡ (b ⊻ (a ⊻ c))
 ⊻-left-comm a b c = sym (⊻-assoc a b c) ∙ ap (λ (z : Bool). z ⊻ c) (⊻-comm a b) ∙ ⊻-assoc b a c
+
+pub ⊻-again : (a b : Bool) → b ≡ (a ⊻ (a ⊻ b))
+⊻-again false b = refl
+⊻-again true false = refl
+⊻-again true true = refl
+
+pub ⊻-false : (a : Bool) → (a ⊻ false) ≡ a
+⊻-false false = refl
+⊻-false true = refl
 
 pub and-⊻ : (a b c : Bool) → (a && (b ⊻ c)) ≡ ((a && b) ⊻ (a && c))
 and-⊻ true b c = refl

@@ -30,16 +30,18 @@ module _ (s : List ℕ) (full : length s ≡ 33) where
   unfolding printed
   for-other n h = rw (ne-eqb (length (take n s)) 32 (λ e. h (omega (arith, length-take n s))))
 
-  pub says-ciphertext : (n : ℕ) (k b y t o o₁ o₂ : List ℕ) → n ≡ 32 → k ≡ part 0 16 s → b ≡ part 16 16 s → y ≡ encrypt k b → t ≡ hexOf y → length t ≡ 32
-      → 33 ≤ length o → o₁ ≡ put 0 t o → o₂ ≡ put 32 (10 ∷ []) o₁ → Says (printed (take n s)) o 33 o₂
+  pub says-ciphertext : (n : ℕ) (k b y t o o₁ o₂ : List ℕ) → n ≡ 32 → k ≡ part 0 16 s → b ≡ part 16 16 s → y ≡ encrypt k b
+      → t ≡ hexOf y → length t ≡ 32 → 33 ≤ length o → o₁ ≡ put 0 t o → o₂ ≡ put 32 (10 ∷ []) o₁ → Says (printed (take n s)) o 33 o₂
   says-ciphertext n k b y t o o₁ o₂ e ek eb ey et l fits e₁ e₂ =
       let text : t ++ (10 ∷ []) ≡ printed (take n s) =
-      ap (λ (z : List ℕ). z ++ (10 ∷ [])) (et ∙ ap hexOf (ey ∙ ap₂ encrypt ek eb)) ∙ sym for-block ∙ ap (λ (m : ℕ). printed (take m s)) (sym e) in (
+      ap (λ (z : List ℕ). z ++ (10 ∷ [])) (et ∙ ap hexOf (ey ∙ ap₂ encrypt ek eb))
+      ∙ sym for-block ∙ ap (λ (m : ℕ). printed (take m s)) (sym e) in (
         omega (arith, ap length text, length-append t (10 ∷ [])),
         e₂ ∙ ap (put 32 (10 ∷ [])) e₁ ∙ put-put 0 t (10 ∷ []) o 32 (omega arith) (omega arith) ∙ ap (λ (z : List ℕ). put 0 z o) text,
       )
 
-  pub says-length : (n : ℕ) (o o′ : List ℕ) → (n ≡ 32 → ⊥) → o′ ≡ put 0 (108 ∷ 101 ∷ 110 ∷ 103 ∷ 116 ∷ 104 ∷ 10 ∷ []) o → Says (printed (take n s)) o 7 o′
+  pub says-length : (n : ℕ) (o o′ : List ℕ) → (n ≡ 32 → ⊥) → o′ ≡ put 0 (108 ∷ 101 ∷ 110 ∷ 103 ∷ 116 ∷ 104 ∷ 10 ∷ []) o
+      → Says (printed (take n s)) o 7 o′
   says-length n o o′ h e = let text = for-other n h in (sym (ap length text), e ∙ ap (λ (z : List ℕ). put 0 z o) (sym text))
 
 -- a text written from the start lies inside

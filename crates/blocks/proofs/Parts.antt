@@ -5,8 +5,10 @@ use Prim.Native.Nat.{ℕ, zero, suc, _+_, _-_, _≤_, _<_}
 use native.Mathlib.Nat.{zero-add, add-zero, add-assoc}
 use native.Mathlib.Numerals.{add-one}
 use native.Mathlib.Omega.{arith}
-use lib.ListN.{length, getD, take, drop, set, replicate, length-append, length-drop, length-replicate, take-append-drop, replicate-append-replicate}
-use lib.Seq.{length-take-le, take-take, take-at, drop-at, drop-drop, drop-append-add, drop-cons, set-at, drop-length, getD-drop, take-suc, take-length}
+use lib.ListN.{length, getD, take, drop, set, replicate, length-append, length-drop, length-replicate, take-append-drop}
+use lib.ListN.{replicate-append-replicate}
+use lib.Seq.{length-take-le, take-take, take-at, drop-at, drop-drop, drop-append-add, drop-cons, set-at, drop-length, getD-drop, take-suc}
+use lib.Seq.{take-length}
 use Rattle.blocks.specs.Bytes.{Bytes}
 use Rattle.blocks.specs.Put.{put, tab, part}
 use Rattle.blocks.proofs.Xor.{bytes-take, bytes-drop}
@@ -18,6 +20,13 @@ part-length at n s h = length-take-le n (drop at s) (omega (arith, length-drop a
 
 pub part-bytes : (at n : ℕ) (s : List ℕ) → Bytes s → Bytes (part at n s)
 part-bytes at n s b = bytes-take n (drop at s) (bytes-drop at s b)
+
+-- one element more
+pub part-more : (at n : ℕ) (s : List ℕ) → at + n < length s → part at (n + 1) s ≡ part at n s ++ (getD s (at + n) 0 ∷ [])
+part-more at n s h =
+    ap (λ (k : ℕ). part at k s) (add-one n)
+    ∙ take-suc (drop at s) n 0 (omega (arith, length-drop at s))
+    ∙ ap (λ (x : ℕ). part at n s ++ (x ∷ [])) (getD-drop at s n 0)
 
 -- of what is taken of a list, and of a part
 pub part-take : (p n k : ℕ) (l : List ℕ) → p + n ≤ k → part p n (take k l) ≡ part p n l
@@ -68,7 +77,8 @@ cut-length : (at : ℕ) (xs o : List ℕ) → at ≤ length o → length (take a
 cut-length at xs o h = simp (length-append, length-take-le at o h)
 
 -- a write right behind another one
-pub put-put : (at : ℕ) (xs ys o : List ℕ) (n : ℕ) → n ≡ at + length xs → at + length xs ≤ length o → put n ys (put at xs o) ≡ put at (xs ++ ys) o
+pub put-put : (at : ℕ) (xs ys o : List ℕ) (n : ℕ) → n ≡ at + length xs → at + length xs ≤ length o
+    → put n ys (put at xs o) ≡ put at (xs ++ ys) o
 unfolding put
 put-put at xs ys o n e h =
     let p : List ℕ = take at o ++ xs in
@@ -76,10 +86,12 @@ put-put at xs ys o n e h =
     ap (λ (z : List ℕ). take n z ++ (ys ++ drop (n + length ys) z)) (cut at xs o)
     ∙ ap (λ (z : List ℕ). z ++ (ys ++ drop (n + length ys) (p ++ drop (at + length xs) o))) (take-at p (drop (at + length xs) o) n l)
     ∙ ap (λ (k : ℕ). p ++ (ys ++ drop (k + length ys) (p ++ drop (at + length xs) o))) (sym l)
-    ∙ ap (λ (z : List ℕ). p ++ (ys ++ z)) (drop-append-add p (drop (at + length xs) o) (length ys) ∙ drop-drop (length ys) (at + length xs) o)
+    ∙ ap (λ (z : List ℕ). p ++ (ys ++ z))
+    (drop-append-add p (drop (at + length xs) o) (length ys) ∙ drop-drop (length ys) (at + length xs) o)
     ∙ append-assoc (take at o) xs (ys ++ drop (at + length xs + length ys) o)
     ∙ ap (λ (z : List ℕ). take at o ++ z) (sym (append-assoc xs ys (drop (at + length xs + length ys) o)))
-    ∙ ap (λ (k : ℕ). take at o ++ ((xs ++ ys) ++ drop k o)) (add-assoc at (length xs) (length ys) ∙ ap (λ (k : ℕ). at + k) (sym (length-append xs ys)))
+    ∙ ap (λ (k : ℕ). take at o ++ ((xs ++ ys) ++ drop k o))
+    (add-assoc at (length xs) (length ys) ∙ ap (λ (k : ℕ). at + k) (sym (length-append xs ys)))
 
 -- a store right behind a write
 pub put-set : (at : ℕ) (xs o : List ℕ) (v n : ℕ) → n ≡ at + length xs → n < length o → set (put at xs o) n v ≡ put at (xs ++ (v ∷ [])) o
@@ -94,6 +106,17 @@ put-set at xs o v n e h =
     ∙ ap (λ (z : List ℕ). take at o ++ z) (sym (append-assoc xs (v ∷ []) (drop (suc (at + length xs)) o)))
     ∙ ap (λ (k : ℕ). take at o ++ ((xs ++ (v ∷ [])) ++ drop k o)) j
 
+-- a store right in front of a write
+pub set-put : (at v : ℕ) (xs o : List ℕ) → at < length o → set (put (at + 1) xs o) at v ≡ put at (v ∷ xs) o
+unfolding put
+set-put at v xs o h =
+    let rest : List ℕ = xs ++ drop (at + 1 + length xs) o in
+    let k : at + 1 + length xs ≡ at + length (v ∷ xs) = omega arith in
+    ap (λ (z : List ℕ). set (z ++ rest) at v) (ap (λ (n : ℕ). take n o) (add-one at) ∙ take-suc o at 0 h)
+    ∙ ap (λ (z : List ℕ). set z at v) (append-assoc (take at o) (getD o at 0 ∷ []) rest)
+    ∙ set-at (take at o) (getD o at 0) rest v at (length-take-le at o (omega arith))
+    ∙ ap (λ (n : ℕ). take at o ++ (v ∷ (xs ++ drop n o))) k
+
 -- a loop that writes f 0, f 1, .. from at: before the first turn, the length, and a turn
 pub fill-none : (at : ℕ) (f : ℕ → ℕ) (o : List ℕ) → o ≡ put at (tab 0 f) o
 fill-none at f o = sym (ap (λ (xs : List ℕ). put at xs o) (tab-zero f) ∙ put-none at o)
@@ -101,22 +124,13 @@ fill-none at f o = sym (ap (λ (xs : List ℕ). put at xs o) (tab-zero f) ∙ pu
 pub fill-length : (at i : ℕ) (f : ℕ → ℕ) (o out : List ℕ) → out ≡ put at (tab i f) o → at + i ≤ length o → length out ≡ length o
 fill-length at i f o out e h = ap length e ∙ put-length at (tab i f) o (omega (arith, tab-length i f))
 
-pub fill-more : (at i v : ℕ) (f : ℕ → ℕ) (o out : List ℕ) → out ≡ put at (tab i f) o → at + i < length o → v ≡ f i → set out (at + i) v ≡ put at (tab (i + 1) f) o
+pub fill-more : (at i v : ℕ) (f : ℕ → ℕ) (o out : List ℕ) → out ≡ put at (tab i f) o → at + i < length o → v ≡ f i
+    → set out (at + i) v ≡ put at (tab (i + 1) f) o
 fill-more at i v f o out e h d =
     ap (λ (z : List ℕ). set z (at + i) v) e
     ∙ put-set at (tab i f) o v (at + i) (ap (λ (k : ℕ). at + k) (sym (tab-length i f))) h
     ∙ ap (λ (w : ℕ). put at (tab i f ++ (w ∷ [])) o) d
     ∙ ap (λ (xs : List ℕ). put at xs o) (sym (tab-more i f))
-
--- four stores in a row
-pub put-four : (at a b c d : ℕ) (o : List ℕ) → at + 4 ≤ length o
-    → set (set (set (set o at a) (at + 1) b) (at + 2) c) (at + 3) d ≡ put at (a ∷ b ∷ c ∷ d ∷ []) o
-put-four at a b c d o h =
-    ap (λ (z : List ℕ). set (set (set (set z at a) (at + 1) b) (at + 2) c) (at + 3) d) (sym (put-none at o))
-    ∙ ap (λ (z : List ℕ). set (set (set z (at + 1) b) (at + 2) c) (at + 3) d) (put-set at [] o a at (sym (add-zero at)) (omega arith))
-    ∙ ap (λ (z : List ℕ). set (set z (at + 2) c) (at + 3) d) (put-set at (a ∷ []) o b (at + 1) refl (omega arith))
-    ∙ ap (λ (z : List ℕ). set z (at + 3) d) (put-set at (a ∷ b ∷ []) o c (at + 2) refl (omega arith))
-    ∙ put-set at (a ∷ b ∷ c ∷ []) o d (at + 3) refl (omega arith)
 
 pub fill-done : (at i n : ℕ) (f : ℕ → ℕ) (o out : List ℕ) → out ≡ put at (tab i f) o → i ≡ n → out ≡ put at (tab n f) o
 fill-done at i n f o out e d = e ∙ ap (λ (k : ℕ). put at (tab k f) o) d
@@ -155,7 +169,8 @@ put-three x y z o m n em en e =
 pub all-none : (f : ℕ → ℕ) (o : List ℕ) → o ≡ put 0 (tab 0 f) o
 all-none = fill-none 0
 
-pub all-more : (i v : ℕ) (f : ℕ → ℕ) (o out : List ℕ) → out ≡ put 0 (tab i f) o → i < length o → v ≡ f i → set out i v ≡ put 0 (tab (i + 1) f) o
+pub all-more : (i v : ℕ) (f : ℕ → ℕ) (o out : List ℕ) → out ≡ put 0 (tab i f) o → i < length o → v ≡ f i
+    → set out i v ≡ put 0 (tab (i + 1) f) o
 all-more i v f o out e h d = ap (λ (n : ℕ). set out n v) (sym (zero-add i)) ∙ fill-more 0 i v f o out e (omega arith) d
 
 pub all-done : (i n : ℕ) (f : ℕ → ℕ) (o out : List ℕ) → out ≡ put 0 (tab i f) o → i ≡ n → length o ≡ n → out ≡ tab n f
@@ -167,8 +182,8 @@ unfolding tab
 tab-part zero at s h = refl
 tab-part (suc n) at s h =
     ap (λ (z : List ℕ). z ++ (getD s (at + n) 0 ∷ [])) (tab-part n at s (omega arith))
-    ∙ ap (λ (v : ℕ). take n (drop at s) ++ (v ∷ [])) (sym (getD-drop at s n 0))
-    ∙ sym (take-suc (drop at s) n 0 (omega (arith, length-drop at s)))
+    ∙ sym (part-more at n s (omega arith))
+    ∙ ap (λ (k : ℕ). part at k s) (add-one n)
 
 -- the elements of a whole list, by their places
 pub tab-list : (s : List ℕ) → tab (length s) (λ i. getD s i 0) ≡ s

@@ -15,6 +15,10 @@ pub record Block (b : List ℕ) : Type 0 where
   pub size : length b ≡ 16
   pub bytes : Bytes b
 
+-- E makes blocks of blocks
+abbrev pub MakesBlocks : (List ℕ → List ℕ) → Type 0
+MakesBlocks E = (b : List ℕ) → Block b → Block (E b)
+
 infixr 66 _⊕_
 -- XOR byte by byte, as long as the shorter
 unfoldable pub _⊕_ : List ℕ → List ℕ → List ℕ

@@ -1,34 +1,44 @@
 // Parts of a slice: read and written as numbers, blocks and bytes.
 ghost use mathlib.Core.Path.{_≡_};
-ghost use Prim.Native.Nat.{_+_, _≤_, _<_};
-ghost use lib.ListN.{length};
+ghost use Prim.Native.Nat.{_+_, _≤_};
+ghost use lib.ListN.{length, take};
 ghost use Rattle.blocks.specs.Bytes.{sameBytes};
 ghost use Rattle.blocks.specs.Number.{bigEndian, value};
 ghost use Rattle.blocks.specs.Put.{part, put};
 
-fn wide(x: u8) -> u32
-    ensures { λ r. ⌜ (r ≡ x) × (r < 256) ⌝ }
+// The number that the w bytes from `at` say.
+pub fn number_at(s: &[u8], at: usize, w: usize) -> u64
+    requires { ⌜ (w ≤ 8) × (at + w ≤ length (now s)) ⌝ }
+    ensures { λ r. ⌜ r ≡ value (part at w (now (s .entry))) ⌝ }
 {
-    x as u32
+    let mut number: u64 = 0;
+    for i in 0..w {
+        let byte = s[at + i] as u64;
+        number = number * 256 + byte;
+    }
+    number
 }
 
 // The number that the four bytes from `at` say.
-pub fn number_at(s: &[u8], at: usize) -> u32
+pub fn word_at(s: &[u8], at: usize) -> u32
     requires { ⌜ at + 4 ≤ length (now s) ⌝ }
     ensures { λ r. ⌜ r ≡ value (part at 4 (now (s .entry))) ⌝ }
 {
-    wide(s[at]) * 16777216 + wide(s[at + 1]) * 65536 + wide(s[at + 2]) * 256 + wide(s[at + 3])
+    number_at(s, at, 4) as u32
 }
 
-// Writes the four bytes of `x` from `at`.
-pub fn put_number(out: &mut [u8], at: usize, x: u32)
-    requires { ⌜ at + 4 ≤ length (now out) ⌝ }
-    ensures { λ _. ⌜ now (out .exit) ≡ put at (bigEndian 4 x) (now (out .entry)) ⌝ }
+// Writes the lowest w bytes of `x` from `at`, the last one first.
+pub fn put_number(out: &mut [u8], at: usize, w: usize, x: u64)
+    requires { ⌜ (w ≤ 8) × (at + w ≤ length (now out)) ⌝ }
+    ensures { λ _. ⌜ now (out .exit) ≡ put at (bigEndian w x) (now (out .entry)) ⌝ }
 {
-    out[at] = (x / 16777216 % 256) as u8;
-    out[at + 1] = (x / 65536 % 256) as u8;
-    out[at + 2] = (x / 256 % 256) as u8;
-    out[at + 3] = (x % 256) as u8;
+    let mut rest = x;
+    let mut i = w;
+    while 0 < i {
+        i -= 1;
+        out[at + i] = (rest % 256) as u8;
+        rest /= 256;
+    }
 }
 
 // Writes the bytes of `src` from `at`.
@@ -63,13 +73,13 @@ pub fn blocks_at(s: &[u8], at: usize) -> [u8; 48]
     blocks
 }
 
-// Whether the 16 bytes from `at` are those of `block`: all of them are looked at.
-pub fn same_at(block: [u8; 16], s: &[u8], at: usize) -> bool
-    requires { ⌜ at + 16 ≤ length (now s) ⌝ }
-    ensures { λ r. ⌜ r ≡ sameBytes block (part at 16 (now (s .entry))) ⌝ }
+// Whether the n bytes from `at` are the first of `block`: all of them are looked at.
+pub fn same_at(block: [u8; 16], n: usize, s: &[u8], at: usize) -> bool
+    requires { ⌜ (n ≤ 16) × (at + n ≤ length (now s)) ⌝ }
+    ensures { λ r. ⌜ r ≡ sameBytes (take n block) (part at n (now (s .entry))) ⌝ }
 {
     let mut same = true;
-    for i in 0..16 {
+    for i in 0..n {
         if block[i] != s[at + i] {
             same = false;
         }

@@ -6,42 +6,48 @@ use Prim.Native.Nat.{ℕ, _≤_, _<_}
 use native.Mathlib.Omega.{arith}
 use lib.ListN.{length, drop}
 use borrow.Author.Tests.{ltb-false, eqb-false, not-false, lt-ltb, le-ltb, eq-eqb, ne-eqb}
-use Rattle.baksheesh.specs.Baksheesh.{rounds}
 use Rattle.modes.specs.Pieces.{blockCount}
 use Rattle.answers.specs.Answer.{Cause, done, NoneOf}
 use Rattle.answers.proofs.First.{done-none, accepts-none, none-accepts}
-use Rattle.links.specs.Record.{greatest, longest, recordSize}
+use Rattle.links.specs.Record.{standard, greatest, longest, recordSize}
 use Rattle.links.specs.declared.Sender.{Sender}
 use Rattle.plain.specs.Entry.{plainKeys, plainCauses, plainAnswer}
-use Rattle.calls.specs.Calls.{callCount, tapeNeed}
+use Rattle.masking.specs.Call.{pairCount}
+use Rattle.calls.specs.Numbered.{callCount, tapeNeed}
 use Rattle.calls.specs.Entry.{inputCauses, sealCauses, sealAnswer, laneSize, reportCauses, hasLane, reportAnswer}
 use Rattle.calls.specs.Demand.{Accepted}
 
 -- what sealing and the report ask alike
 pub record Sealable (x : Sender) (m t : List ℕ) : Type 0 where
   pub keyed : x .keyed ≡ true
-  pub left : x .last ≡ greatest → ⊥
+  pub left : x .last ≡ greatest standard → ⊥
   pub small : length m ≤ longest
   pub long : tapeNeed (length m) ≤ length t
 
 module _ (x : Sender) (m t : List ℕ) where
   sealable-none : (cs : List Cause) → Sealable x m t → NoneOf cs → NoneOf (inputCauses x m t cs)
-  sealable-none cs S h =
-      (ap not (S .keyed), (ne-eqb (x .last) greatest (S .left), (le-ltb longest (length m) (S .small), (le-ltb (length t) (tapeNeed (length m)) (S .long), h))))
+  sealable-none cs S h = (
+    ap not (S .keyed),
+    (
+      ne-eqb (x .last) (greatest standard) (S .left),
+      (le-ltb longest (length m) (S .small), (le-ltb (length t) (tapeNeed (length m)) (S .long), h)),
+    ),
+  )
 
   none-sealable : (cs : List Cause) → NoneOf (inputCauses x m t cs) → Sealable x m t
   none-sealable cs h = record {
     keyed = not-false (x .keyed) (h .0);
-    left = eqb-false (x .last) greatest (h .1 .0);
+    left = eqb-false (x .last) (greatest standard) (h .1 .0);
     small = ltb-false longest (length m) (h .1 .1 .0);
     long = ltb-false (length t) (tapeNeed (length m)) (h .1 .1 .1 .0);
   }
 
   -- ---- sealing
 
-  pub accepted : (o : ℕ) → Sealable x m t → recordSize (length m) ≤ o → Accepted x m t o
+  pub accepted : (o : ℕ) → Sealable x m t → recordSize standard (length m) ≤ o → Accepted x m t o
   unfolding sealAnswer
-  accepted o S h = none-accepts (sealCauses x m t o) _ (sealable-none (drop 4 (sealCauses x m t o)) S (le-ltb o (recordSize (length m)) h, tt))
+  accepted o S h =
+      none-accepts (sealCauses x m t o) _ (sealable-none (drop 4 (sealCauses x m t o)) S (le-ltb o (recordSize standard (length m)) h, tt))
 
   module _ (o : ℕ) (A : Accepted x m t o) where
     none : NoneOf (sealCauses x m t o)
@@ -49,31 +55,39 @@ module _ (x : Sender) (m t : List ℕ) where
     none = accepts-none (sealCauses x m t o) _ tt A
 
     -- the values returned: the length of the record, and the tape bytes read
-    pub values : sealAnswer x m t o ≡ done (recordSize (length m) ∷ tapeNeed (length m) ∷ [])
+    pub values : sealAnswer x m t o ≡ done (recordSize standard (length m) ∷ tapeNeed (length m) ∷ [])
     unfolding sealAnswer
     values = done-none (sealCauses x m t o) _ none
 
     pub sealable : Sealable x m t
     sealable = none-sealable (drop 4 (sealCauses x m t o)) none
 
-    pub room : recordSize (length m) ≤ o
-    room = ltb-false o (recordSize (length m)) (none .1 .1 .1 .1 .0)
+    pub room : recordSize standard (length m) ≤ o
+    room = ltb-false o (recordSize standard (length m)) (none .1 .1 .1 .1 .0)
 
     -- plain sealing is done as well
-    pub plain-done : (keys : List ℕ) (s : ℕ) → length keys ≡ plainKeys → 0 < s → plainAnswer keys s m o ≡ done (recordSize (length m) ∷ [])
+    pub plain-done : (keys : List ℕ) (s : ℕ) → length keys ≡ plainKeys → 0 < s
+        → plainAnswer standard keys s m o ≡ done (recordSize standard (length m) ∷ [])
     unfolding plainAnswer
     plain-done keys s e h =
-        done-none (plainCauses keys s m o) _
+        done-none (plainCauses standard keys s m o) _
         (ap not (eq-eqb (length keys) plainKeys e), (ne-eqb s 0 (λ z. omega arith), (none .1 .1 .0, none .1 .1 .1 .1)))
 
   -- ---- the report
 
-  pub reported : (k r i o : ℕ) → Sealable x m t → 1 ≤ k → k ≤ callCount (blockCount (length m)) → 1 ≤ r → r ≤ rounds → i < 3 → laneSize ≤ o
-      → reportAnswer x m t k r i o ≡ done []
+  pub reported : (k r i o : ℕ) → Sealable x m t → 1 ≤ k → k ≤ callCount (blockCount (length m)) → 1 ≤ r → r ≤ pairCount → i < 3
+      → laneSize ≤ o → reportAnswer x m t k r i o ≡ done []
   unfolding reportAnswer
   reported k r i o S k₁ kₙ r₁ rₙ i₂ h =
       done-none (reportCauses x m t k r i o) (done []) (sealable-none (drop 4 (reportCauses x m t k r i o)) S
       (ap not has, (le-ltb o laneSize h, tt)))
     where
       has : hasLane (length m) k r i ≡ true
-      has = simp (ne-eqb k 0 (λ e. omega arith), le-ltb (callCount (blockCount (length m))) k kₙ, ne-eqb r 0 (λ e. omega arith), le-ltb rounds r rₙ, lt-ltb i 3 i₂)
+      has =
+          simp (
+            ne-eqb k 0 (λ e. omega arith),
+            le-ltb (callCount (blockCount (length m))) k kₙ,
+            ne-eqb r 0 (λ e. omega arith),
+            le-ltb pairCount r rₙ,
+            lt-ltb i 3 i₂,
+          )

@@ -1,8 +1,8 @@
--- The joined shares of a sealing are plain sealing's blocks, and its record is the plain record. Assumes nothing.
+-- The joined shares of a sealing's calls are plain sealing's blocks, and its record is the plain record. Assumes nothing.
 use mathlib.Core.Path.{_≡_, refl, sym, ap, ap₂, _∙_}
 use mathlib.Core.Bool.{Bool, true, false, cond}
 use mathlib.Core.List.{List, _∷_, _++_, append-nil}
-use Prim.Native.Nat.{ℕ, zero, suc, _+_, _-_, _*_, _%_, _≤_, _<_}
+use Prim.Native.Nat.{ℕ, zero, suc, _+_, _-_, _%_, _≤_, _<_}
 use native.Mathlib.Decide.{decLt, ℕ-discrete}
 use native.Mathlib.Omega.{arith}
 use lib.Dec.{eqb}
@@ -10,30 +10,38 @@ use lib.ListN.{length, take, replicate, length-append, length-take, length-repli
 use lib.Seq.{take-all}
 use borrow.Author.Tests.{eq-eqb, ne-eqb}
 use Rattle.blocks.specs.Bytes.{Bytes, Block, _⊕_, zeros}
-use Rattle.blocks.proofs.Xor.{⊕-comm, ⊕-length, ⊕-replicate, take-⊕, append-⊕, zeros-block}
+use Rattle.blocks.proofs.Xor.{⊕-comm, ⊕-length, ⊕-replicate, take-⊕, append-⊕}
 use Rattle.baksheesh.specs.Baksheesh.{encrypt}
 use Rattle.baksheesh.proofs.Inverse.{encrypt-block}
 use Rattle.modes.specs.Pieces.{blockCount, piece}
-use Rattle.modes.specs.Cmac.{doubled, macCount, subkey₁, subkey₂, lastBlock, cmac}
+use Rattle.modes.specs.Cmac.{doubled, subkey₁, subkey₂, lastBlock}
 use Rattle.modes.specs.Cmac as Cmac
-use Rattle.modes.proofs.Pieces.{macCount-behind, piece-length, piece-le, piece-whole, piece-bytes, piece-front, piece-behind}
+use Rattle.modes.proofs.Pieces.{piece-length, piece-le, piece-whole, piece-bytes, piece-front, piece-behind}
 use Rattle.modes.proofs.Ctr.{piece-ctr, ctr-same}
 use Rattle.modes.proofs.Doubled.{doubled-block, doubled-⊕}
-use Rattle.links.specs.Record.{counterBlock, recordOf}
+use Rattle.links.specs.Record.{standard, counterBlock, recordOf}
 use Rattle.links.specs.declared.Sender.{Sender}
 use Rattle.links.proofs.Record.{counter-block}
-use Rattle.plain.specs.Plain.{crypted, authenticated, tagOf, plainRecord}
-use Rattle.plain.proofs.Sealed.{crypted-length}
-use Rattle.shares.specs.Shares.{Shares, Blocks, join, add, each, only, sharesIn}
-use Rattle.shares.specs.Tape.{Reader, pairSize}
-use Rattle.shares.proofs.Shape.{Reads, add-blocks, only-blocks}
-use Rattle.shares.proofs.Joins.{Linear, linear-∘, join-add, join-only, join-zeros, join-masksAt, join-map, call-join}
-use Rattle.calls.specs.Calls.{Call, ctr, sub, mac, callNumber, callCount, ofKey, keyAt, callAt, tapeNeed}
-use Rattle.calls.specs.Sealed.{cut, completed, keyShares, run, ctrOut, subkey, macBlock, chain, macIn, inputOf, tagShares, ciphertext, sealedRecord}
+use Rattle.plain.specs.Plain.{crypted, authenticated, macOf, plainRecord}
+use Rattle.masking.specs.Shares.{Shares, Blocks, join, add, each, only, sharesIn}
+use Rattle.masking.specs.Tape.{Reader}
+use Rattle.masking.specs.Stages.{plainAfter}
+use Rattle.masking.specs.Call.{encryption, pairCount, plainEncryption}
+use Rattle.masking.proofs.Shape.{Reads}
+use Rattle.masking.proofs.Joins.{Linear, linear-∘, join-add, join-only, join-zeros, join-map}
+use Rattle.masking.proofs.Encryption.{encryption-blocks, encryption-joins, plain-encrypts}
+use Rattle.runs.specs.Run.{Run, outputOf}
+use Rattle.runs.proofs.Run.{output-join}
+use Rattle.calls.specs.Numbered.{Call, ctr, sub, mac, callNumber, callOf, callCount, ofKey, tapeNeed}
+use Rattle.calls.specs.Sealed.{cut, completed, subkey, macBlock, chain, inputFrom}
+use Rattle.calls.specs.Sealed.{sealingCalls, ctrOut, tagShares, ciphertext, sealedRecord}
 use Rattle.calls.specs.Plain.{plainInput}
+use Rattle.calls.specs.Used.{PlainCallsUsed}
 use Rattle.calls.specs.Demand.{Formed, joinedKE, joinedKM}
-use Rattle.calls.proofs.Calls.{key-low}
-use Rattle.calls.proofs.Shape.{ke-block, km-block, cut-block, completed-whole, completed-short, completed-block, given-blocks, key-blocks, run-blocks, ctrOut-blocks, macBlock-blocks, chain-blocks, macIn-blocks}
+use Rattle.calls.proofs.Numbered.{call-ctr, call-sub, call-mac, call-last, number-low, number-call}
+use Rattle.calls.proofs.Shape.{ke-block, km-block, cut-block, completed-whole}
+use Rattle.calls.proofs.Shape.{completed-short, completed-block, sealing-placed, sealing-blocks}
+use Rattle.calls.proofs.Used.{text-length, plain-calls-used}
 
 -- ---- blocks of the message
 
@@ -81,9 +89,9 @@ cond-⊕ : (t : Bool) (a b c d : List ℕ) → cond t a b ⊕ cond t c d ≡ con
 cond-⊕ true a b c d = refl
 cond-⊕ false a b c d = refl
 
--- ---- a sealing of m on x, with a tape that is long enough
+-- ---- a sealing of m on x
 
-module _ (x : Sender) (m : List ℕ) (M : Reader) (F : Formed x) (b : Bytes m) (h : Reads M (tapeNeed (length m))) where
+module _ (x : Sender) (m : List ℕ) (F : Formed x) (b : Bytes m) where
   abbrev n : ℕ
   n = blockCount (length m)
 
@@ -97,41 +105,21 @@ module _ (x : Sender) (m : List ℕ) (M : Reader) (F : Formed x) (b : Bytes m) (
   counter = counterBlock (x .number) (x .last + 1)
 
   abbrev text : List ℕ
-  text = crypted KE (x .number) (x .last + 1) m
+  text = crypted (encrypt KE) (x .number) (x .last + 1) m
 
   abbrev whole : List ℕ
   whole = authenticated (x .number) (x .last + 1) text
 
-  low : Reads M (2 * pairSize)
-  low p k = h p (omega arith)
+  abbrev input : Call → List ℕ
+  input = plainInput KE KM (x .number) (x .last + 1) m
 
-  -- ---- calls
+  plainly : PlainCallsUsed KE KM (x .number) (x .last + 1) m
+  plainly = plain-calls-used KE KM (ke-block F) (km-block F) (x .number) (x .last + 1) m
 
-  pub key-join : (c : Call) → join (keyShares x m M c) ≡ ofKey KE KM c
-  unfolding keyShares
-  key-join c = join-masksAt M (keyAt c) (given-blocks x m M F b c) (λ p k. low p (omega (arith, key-low c))) ∙ given c
-    where
-      given : (c : Call) → join (sharesIn (ofKey (x .ke) (x .km) c)) ≡ ofKey KE KM c
-      given (ctr j) = refl
-      given sub = refl
-      given (mac j) = refl
-
-  run-join : (c : Call) {s : Shares} → Blocks s → callNumber n c ≤ callCount n → join (run x m M c s) ≡ encrypt (ofKey KE KM c) (join s)
-  unfolding run
-  run-join c {s} p k =
-      call-join M (callAt (callNumber n c)) (key-blocks x m M F b c low) p (λ q l. h q (omega arith))
-      ∙ ap (λ (z : List ℕ). encrypt z (join s)) (key-join c)
-
-  -- ---- CTR
-
-  ctrOut-join : (j : ℕ) → j < n → join (ctrOut x m M j) ≡ encrypt KE (counter j)
-  unfolding ctrOut
-  ctrOut-join j l =
-      run-join (ctr j) (only-blocks (counter-block _ _ j)) (omega arith) ∙ ap (encrypt KE) (join-only (counter-block _ _ j))
-
-  pub ciphertext-join : ciphertext x m M ≡ text
-  unfolding ciphertext
-  ciphertext-join = ctr-same (λ b. b) (encrypt KE) (λ j. join (ctrOut x m M j)) counter m ctrOut-join
+  pub given-join : (c : Call) → join (sharesIn (ofKey (x .ke) (x .km) c)) ≡ ofKey KE KM c
+  given-join (ctr j) = refl
+  given-join sub = refl
+  given-join (mac j) = refl
 
   -- ---- what is authenticated
 
@@ -139,89 +127,122 @@ module _ (x : Sender) (m : List ℕ) (M : Reader) (F : Formed x) (b : Bytes m) (
   counter-size = counter-block _ _ 0 .size
 
   whole-length : length whole ≡ 16 + length m
-  whole-length = length-append (counter 0) text ∙ ap₂ _+_ counter-size (crypted-length (ke-block F) (km-block F) (x .number) (x .last + 1) m)
+  whole-length = length-append (counter 0) text ∙ ap₂ _+_ counter-size (text-length (ke-block F) (x .number) (x .last + 1) m)
 
   piece-size : (j : ℕ) → j < n → length (piece j whole) ≡ 16
   piece-size j l = piece-whole j whole (omega (arith, whole-length))
-
-  macBlock-join : (j : ℕ) → j ≤ n → join (macBlock x m M j) ≡ completed (piece j whole)
-  unfolding macBlock
-  macBlock-join zero l =
-      join-only (counter-block _ _ 0) ∙ sym (completed-whole (counter 0) counter-size) ∙ ap completed (sym (piece-front (counter 0) text counter-size))
-  macBlock-join (suc j) l =
-      let p : List ℕ = piece j m in
-      join-add (each (cut (length p)) (ctrOut x m M j)) (only (completed p))
-      ∙ ap₂ _⊕_ (join-map (cut-linear (length p) (piece-le j m)) (ctrOut x m M j) (ctrOut-blocks x m M F b j low) ∙ ap (cut (length p)) (ctrOut-join j (omega arith)))
-      (join-only (completed-block p (piece-bytes j m b) (piece-le j m)))
-      ∙ cut-completed p (encrypt KE (counter j)) (piece-le j m) (outputs j)
-      ∙ ap completed (sym (piece-behind j (counter 0) text counter-size ∙ piece-ctr (encrypt KE) counter outputs m j (omega arith)))
-    where
-      outputs : (j : ℕ) → Block (encrypt KE (counter j))
-      outputs j = encrypt-block KE _ (ke-block F) (counter-block _ _ j)
-
-  -- ---- CMAC
 
   -- the last block is complete where the message ends with one, or is empty
   last-complete : eqb (length m % 16) 0 ≡ eqb (length (piece n whole)) 16
   last-complete = elim (ℕ-discrete (length m % 16) 0) [
     | yes e ↦ eq-eqb (length m % 16) 0 e ∙ sym (eq-eqb (length (piece n whole)) 16 (omega (arith, piece-length n whole, whole-length)))
-    | no e ↦ ne-eqb (length m % 16) 0 e ∙ sym (ne-eqb (length (piece n whole)) 16 (λ f. e (omega (arith, piece-length n whole, whole-length))))
+    | no e ↦
+        ne-eqb (length m % 16) 0 e
+        ∙ sym (ne-eqb (length (piece n whole)) 16 (λ f. e (omega (arith, piece-length n whole, whole-length))))
   ]
 
-  pub subkey-join : join (subkey x m M) ≡ cond (eqb (length (piece n whole)) 16) (subkey₁ (encrypt KM)) (subkey₂ (encrypt KM))
-  unfolding subkey subkey₁ subkey₂
-  subkey-join = once (eqb (length m % 16) 0) ∙ ap (λ (t : Bool). cond t (subkey₁ (encrypt KM)) (subkey₂ (encrypt KM))) last-complete
-    where
-      made : Shares
-      made = run x m M sub (λ i. zeros)
+  -- ---- the inputs of CMAC's calls, of outputs f that join to plain outputs up to the chain's block j
 
-      blocks : Blocks made
-      blocks = run-blocks x m M F b sub (λ i. zeros-block) low
+  module _ (f : ℕ → Shares) (fb : (j : ℕ) → Blocks (f j)) (k : ℕ)
+      (fj : (c : Call) → callOf n (callNumber n c) ≡ c → callNumber n c < k → join (f (callNumber n c))
+      ≡ encrypt (ofKey KE KM c) (input c)) where
+    macBlock-join : (j : ℕ) → j ≤ n → j < k → join (macBlock x m f j) ≡ completed (piece j whole)
+    unfolding macBlock plainInput
+    macBlock-join zero l h =
+        join-only (counter-block _ _ 0) ∙ sym (completed-whole (counter 0) counter-size)
+        ∙ ap completed (sym (piece-front (counter 0) text counter-size))
+    macBlock-join (suc j) l h =
+        let p : List ℕ = piece j m in
+        let s : Shares = f (callNumber n (ctr j)) in
+        join-add (each (cut (length p)) s) (only (completed p))
+        ∙ ap₂ _⊕_ (join-map (cut-linear (length p) (piece-le j m)) s (fb _)
+        ∙ ap (cut (length p)) (fj (ctr j) (call-ctr n j (omega arith)) (omega arith)))
+        (join-only (completed-block p (piece-bytes j m b) (piece-le j m)))
+        ∙ cut-completed p (encrypt KE (counter j)) (piece-le j m) (encrypt-block KE _ (ke-block F) (counter-block _ _ j))
+        ∙ ap completed (sym (piece-behind j (counter 0) text counter-size
+        ∙ piece-ctr (encrypt KE) counter (λ i. encrypt-block KE _ (ke-block F) (counter-block _ _ i)) m j (omega arith)))
 
-      zero-join : join made ≡ encrypt KM zeros
-      zero-join = run-join sub (λ i. zeros-block) (omega arith) ∙ ap (encrypt KM) join-zeros
+    subkey-join : n + 1 < k → join (subkey x m f) ≡ cond (eqb (length (piece n whole)) 16) (subkey₁ (encrypt KM)) (subkey₂ (encrypt KM))
+    unfolding subkey subkey₁ subkey₂ plainInput
+    subkey-join h =
+        once (eqb (length m % 16) 0) ∙ ap (λ (t : Bool). cond t (subkey₁ (encrypt KM)) (subkey₂ (encrypt KM))) last-complete
+      where
+        made : Shares
+        made = f (callNumber n sub)
 
-      once : (t : Bool) → join (each (λ l. cond t (doubled l) (doubled (doubled l))) made) ≡ cond t (subkey₁ (encrypt KM)) (subkey₂ (encrypt KM))
-      once true = join-map doubled-linear made blocks ∙ ap doubled zero-join
-      once false = join-map (linear-∘ doubled-linear doubled-linear) made blocks ∙ ap (λ (l : List ℕ). doubled (doubled l)) zero-join
+        zero-join : join made ≡ encrypt KM zeros
+        zero-join = fj sub (call-sub n) h
 
-  chain-join : (j : ℕ) → j ≤ n → join (chain x m M j) ≡ Cmac.chain (encrypt KM) zeros whole j
-  unfolding chain Cmac.chain
-  chain-join zero l = join-zeros
-  chain-join (suc j) l =
-      run-join (mac j) (add-blocks (chain-blocks x m M F b j low) (macBlock-blocks x m M F b j low)) (omega arith)
-      ∙ ap (encrypt KM) (join-add (chain x m M j) (macBlock x m M j)
-      ∙ ap₂ _⊕_ (chain-join j (omega arith)) (macBlock-join j (omega arith) ∙ completed-whole (piece j whole) (piece-size j (omega arith))))
+        once : (t : Bool) → join (each (λ l. cond t (doubled l) (doubled (doubled l))) made)
+            ≡ cond t (subkey₁ (encrypt KM)) (subkey₂ (encrypt KM))
+        once true = join-map doubled-linear made (fb _) ∙ ap doubled zero-join
+        once false = join-map (linear-∘ doubled-linear doubled-linear) made (fb _) ∙ ap (λ (l : List ℕ). doubled (doubled l)) zero-join
 
-  last-join : join (add (subkey x m M) (macBlock x m M n)) ≡ lastBlock (encrypt KM) (piece n whole)
-  unfolding lastBlock
-  last-join =
-      join-add (subkey x m M) (macBlock x m M n) ∙ ap₂ _⊕_ subkey-join (macBlock-join n (omega arith))
-      ∙ cond-⊕ (eqb (length (piece n whole)) 16) _ _ _ _
+    chain-join : (j : ℕ) → j ≤ n → n + 2 + j ≤ k → join (chain x m f j) ≡ Cmac.chain (encrypt KM) zeros whole j
+    unfolding chain Cmac.chain
+    chain-join zero l h = join-zeros
+    chain-join (suc j) l h = fj (mac j) (call-mac n j) (omega arith) ∙ sym (plainly .chained j (omega arith))
 
-  macIn-join : (j : ℕ) → j ≤ n → join (macIn x m M j) ≡ plainInput KE KM (x .number) (x .last + 1) m (mac j)
-  unfolding plainInput
-  macIn-join j l = join-add (chain x m M j) _ ∙ ap₂ _⊕_ (chain-join j l) (elim (ℕ-discrete j n) [
-    | yes e ↦ rw (eq-eqb j n e, e) last-join
-    | no e ↦ rw (ne-eqb j n e) (macBlock-join j l ∙ completed-whole (piece j whole) (piece-size j (omega arith)))
-  ])
+    last-join : n + 1 < k → join (add (subkey x m f) (macBlock x m f n)) ≡ lastBlock (encrypt KM) (piece n whole)
+    unfolding lastBlock
+    last-join h =
+        join-add (subkey x m f) (macBlock x m f n) ∙ ap₂ _⊕_ (subkey-join h) (macBlock-join n (omega arith) (omega arith))
+        ∙ cond-⊕ (eqb (length (piece n whole)) 16) _ _ _ _
 
-  -- ---- the inputs of all calls, and the tag
+    inputs-join : (c : Call) → callNumber n c ≡ k → k ≤ callCount n → join (inputFrom x m c f) ≡ input c
+    unfolding inputFrom plainInput
+    inputs-join (ctr j) e l = join-only (counter-block _ _ j)
+    inputs-join sub e l = join-zeros
+    inputs-join (mac j) e l = join-add (chain x m f j) _ ∙ ap₂ _⊕_ (chain-join j (omega arith) (omega arith)) (elim (ℕ-discrete j n) [
+      | yes d ↦ rw (eq-eqb j n d, d) (last-join (omega arith))
+      | no d ↦ rw (ne-eqb j n d)
+          (macBlock-join j (omega arith) (omega arith) ∙ completed-whole (piece j whole) (piece-size j (omega arith)))
+    ])
 
-  pub input-join : (c : Call) → callNumber n c ≤ callCount n → join (inputOf x m M c) ≡ plainInput KE KM (x .number) (x .last + 1) m c
-  unfolding inputOf plainInput
-  input-join (ctr j) l = join-only (counter-block _ _ j)
-  input-join sub l = join-zeros
-  input-join (mac j) l = macIn-join j (omega arith)
+  -- ---- so the run joins
 
-  pub tag-join : join (tagShares x m M) ≡ tagOf KM (x .number) (x .last + 1) text
-  unfolding tagShares cmac plainInput
-  tag-join =
-      let e : n ≡ macCount whole - 1 = omega (arith, macCount-behind (counter 0) text counter-size, crypted-length (ke-block F) (km-block F) (x .number) (x .last + 1) m) in
-      run-join (mac n) (macIn-blocks x m M F b n low) (omega arith)
-      ∙ ap (encrypt KM) (macIn-join n (omega arith) ∙ rw (eq-eqb n n refl))
-      ∙ ap (λ (k : ℕ). encrypt KM (Cmac.chain (encrypt KM) zeros whole k ⊕ lastBlock (encrypt KM) (piece k whole))) e
+  -- the plain cipher's output of call k
+  made-plainly : (k : ℕ) → let c = callOf n k in
+      plainAfter plainEncryption (join (sharesIn (ofKey (x .ke) (x .km) c))) (input c) pairCount ≡ encrypt (ofKey KE KM c) (input c)
+  made-plainly k =
+      let c : Call = callOf n k in
+      plain-encrypts _ _ ∙ ap (λ (z : List ℕ). encrypt z (input c)) (given-join c)
 
-  pub record-join : sealedRecord x m M ≡ plainRecord KE KM (x .number) (x .last + 1) m
-  unfolding sealedRecord plainRecord
-  record-join = ap₂ (recordOf (x .number) (x .last + 1)) ciphertext-join tag-join
+  pub sealing-joins : (k : ℕ) → 1 ≤ k → k ≤ callCount n → (f : ℕ → Shares) → ((j : ℕ) → Blocks (f j))
+      → ((j : ℕ) → 1 ≤ j → j < k
+      → join (f j) ≡ plainAfter plainEncryption (join (sharesIn (ofKey (x .ke) (x .km) (callOf n j)))) (input (callOf n j)) pairCount)
+      → join (inputFrom x m (callOf n k) f) ≡ input (callOf n k)
+  sealing-joins k l h f fb fj =
+      inputs-join f fb k
+      (λ c e q. fj (callNumber n c) (number-low n c) q ∙ made-plainly (callNumber n c)
+      ∙ ap (λ (d : Call). encrypt (ofKey KE KM d) (input d)) e)
+      (callOf n k) (number-call n k l) h
+
+  -- ---- with a tape that is long enough
+
+  module _ (M : Reader) (h : Reads M (tapeNeed (length m))) where
+    abbrev R : Run
+    R = sealingCalls x m
+
+    outputs-join : (k : ℕ) → 1 ≤ k → k ≤ callCount n → let c = callOf n k in join (outputOf encryption R M k)
+        ≡ encrypt (ofKey KE KM c) (input c)
+    outputs-join k l q =
+        output-join (sealing-placed x m) encryption-blocks (sealing-blocks x m F b) M encryption-joins
+        (λ k. input (callOf n k)) sealing-joins
+        k l q (λ p u. h p (omega arith))
+        ∙ made-plainly k
+
+    ciphertext-join : ciphertext x m M ≡ text
+    unfolding ciphertext plainInput
+    ciphertext-join =
+        ctr-same (λ b. b) (encrypt KE) (λ j. join (ctrOut x m M j)) counter m
+        (λ j l. outputs-join (1 + j) (omega arith) (omega arith) ∙ ap (λ (c : Call). encrypt (ofKey KE KM c) (input c)) (call-ctr n j l))
+
+    code-join : join (tagShares x m M) ≡ macOf (encrypt KM) (x .number) (x .last + 1) text
+    code-join =
+        outputs-join (callCount n) (omega arith) (omega arith)
+        ∙ ap (λ (c : Call). encrypt (ofKey KE KM c) (input c)) (call-last n) ∙ sym (plainly .code)
+
+    pub record-join : sealedRecord x m M ≡ plainRecord standard (encrypt KE) (encrypt KM) (x .number) (x .last + 1) m
+    unfolding sealedRecord plainRecord
+    record-join = ap₂ (λ (c t : List ℕ). recordOf standard (x .number) (x .last + 1) c (take (standard .tag) t)) ciphertext-join code-join

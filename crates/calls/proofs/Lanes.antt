@@ -12,23 +12,28 @@ use Rattle.baksheesh.specs.Baksheesh.{rounds, after, rotated}
 use Rattle.answers.specs.Answer.{done}
 use Rattle.answers.proofs.First.{if-done}
 use Rattle.modes.specs.Pieces.{blockCount}
-use Rattle.links.specs.Record.{recordSize}
+use Rattle.links.specs.Record.{standard, recordSize}
 use Rattle.links.specs.declared.Sender.{Sender}
-use Rattle.shares.specs.Shares.{flat, next, isFirst, Shares, Blocks, join}
-use Rattle.shares.specs.Tape.{at, pairSize, masksAt}
-use Rattle.shares.specs.Call.{lane}
-use Rattle.shares.specs.OneTape.{roundOnLane}
-use Rattle.shares.proofs.Shape.{Reads}
-use Rattle.shares.proofs.Tape.{at-reads}
-use Rattle.shares.proofs.Lane.{first-part, second-part, third-part, parts-length, lane-length, lane-twice, states-join, keys-join, lane-next, call-lane}
-use Rattle.calls.specs.Calls.{Call, mac, callNumber, callOf, callCount, callAt, tapeNeed, ofKey}
-use Rattle.calls.specs.Sealed.{keyShares, run, inputOf, tagShares, laneOf}
-use Rattle.calls.specs.Plain.{plainState, plainKey}
+use Rattle.masking.specs.Shares.{flat, next, isFirst, Shares, Blocks, join}
+use Rattle.masking.specs.Tape.{at, pairSize, masksAt}
+use Rattle.masking.specs.Stages.{lane}
+use Rattle.masking.specs.Call.{encryption, pairCount}
+use Rattle.masking.specs.OneTape.{roundOnLane, ExactlyOne}
+use Rattle.masking.proofs.Shape.{Reads}
+use Rattle.masking.proofs.Tape.{at-reads}
+use Rattle.masking.proofs.Lane.{first-part, second-part, third-part, parts-length}
+use Rattle.masking.proofs.Encryption.{encryption-blocks, encryption-joins, encryption-turns, plain-after, lane-follows, call-lane}
+use Rattle.masking.proofs.MaskedCall.{one-accepted}
+use Rattle.runs.specs.Run.{Run, keyShares, inputOf, outputOf, laneOf}
+use Rattle.runs.proofs.Run.{Placed, RunBlocks, key-blocks, input-blocks, output-blocks, states-join, keys-join, lane-length, lane-twice}
+use Rattle.runs.proofs.OneTape.{one-tape-run}
+use Rattle.calls.specs.Numbered.{callOf, callCount, callAt, tapeNeed, keyAt, ofKey}
+use Rattle.calls.specs.Sealed.{sealingCalls, tagShares}
+use Rattle.calls.specs.Plain.{plainInput, plainState, plainKey}
 use Rattle.calls.specs.Entry.{sealAnswer, sealShares, laneSize, indexOf}
-use Rattle.calls.specs.Demand.{Formed, Accepted, AcceptedSealing, joinedKE, joinedKM, shown, masksOf, Joined}
-use Rattle.calls.proofs.Calls.{call-last, number-call}
-use Rattle.calls.proofs.Shape.{key-blocks, input-blocks, run-blocks, macIn-blocks}
-use Rattle.calls.proofs.Joins.{key-join, input-join}
+use Rattle.calls.specs.Demand.{Formed, Accepted, AcceptedSealing, joinedKE, joinedKM, shown, masksOf, SameLane, Joined}
+use Rattle.calls.proofs.Shape.{sealing-placed, sealing-blocks}
+use Rattle.calls.proofs.Joins.{given-join, sealing-joins}
 use Rattle.calls.proofs.Accepted.{Sealable, accepted, values, sealable, room, reported}
 
 index-next : (i : ℕ) → i < 3 → indexOf ((i + 1) % 3) ≡ next (indexOf i)
@@ -56,16 +61,23 @@ module _ (S : AcceptedSealing) where
   abbrev o : ℕ
   o = length (S .out)
 
-  abbrev F : Formed x
-  F = S .formed
+  abbrev n : ℕ
+  n = blockCount (length m)
 
-  abbrev b : Bytes m
-  b = S .message-bytes
+  -- its calls
+  abbrev R : Run
+  R = sealingCalls x m
+
+  pub placed : Placed encryption R
+  placed = sealing-placed x m
+
+  pub blocks : RunBlocks R
+  blocks = sealing-blocks x m (S .formed) (S .message-bytes)
 
   pub can-seal : Sealable x m t
   can-seal = sealable x m t o (S .accepted)
 
-  pub returned : sealAnswer x m t o ≡ done (recordSize (length m) ∷ tapeNeed (length m) ∷ [])
+  pub returned : sealAnswer x m t o ≡ done (recordSize standard (length m) ∷ tapeNeed (length m) ∷ [])
   returned = values x m t o (S .accepted)
 
   pub reads : Reads (at t) (tapeNeed (length m))
@@ -74,7 +86,8 @@ module _ (S : AcceptedSealing) where
   -- with another tape that is long enough it is accepted too
   pub accepted-with : (w : List ℕ) → tapeNeed (length m) ≤ length w → Accepted x m w o
   accepted-with w h =
-      accepted x m w o (record { keyed = can-seal .keyed; left = can-seal .left; small = can-seal .small; long = h }) (room x m t o (S .accepted))
+      accepted x m w o (record { keyed = can-seal .keyed; left = can-seal .left; small = can-seal .small; long = h })
+      (room x m t o (S .accepted))
 
   abbrev pub with-tape : (w : List ℕ) → Bytes w → Accepted x m w o → AcceptedSealing
   with-tape w bw A = record {
@@ -82,97 +95,111 @@ module _ (S : AcceptedSealing) where
     message = m;
     tape = w;
     out = S .out;
-    formed = F;
-    message-bytes = b;
+    formed = S .formed;
+    message-bytes = S .message-bytes;
     tape-bytes = bw;
     accepted = A;
   }
 
-  low : Reads (at t) (2 * pairSize)
-  low p h = reads p (omega arith)
-
   -- ---- round r of call k
 
-  module _ (k r : ℕ) (k₁ : 1 ≤ k) (kₙ : k ≤ callCount (blockCount (length m))) (r₁ : 1 ≤ r) (rₙ : r ≤ rounds) where
-    abbrev call : Call
-    call = callOf (blockCount (length m)) k
-
+  module _ (k r : ℕ) (k₁ : 1 ≤ k) (kₙ : k ≤ callCount n) (r₁ : 1 ≤ r) (rₙ : r ≤ pairCount) where
     masks : Reads (at t) (callAt k + pairSize * (r - 1) + pairSize)
     masks p h = reads p (omega arith)
 
-    keys : Blocks (keyShares x m (at t) call)
-    keys = key-blocks x m (at t) F b call low
-
-    inputs : Blocks (inputOf x m (at t) call)
-    inputs = input-blocks x m (at t) F b call low
-
-    pub shown-lane : (i : ℕ) → i < 3 → shown x m t k r i ≡ laneOf x m (at t) k r (indexOf i)
-    unfolding laneOf
+    pub shown-lane : (i : ℕ) → i < 3 → shown x m t k r i ≡ laneOf encryption R (at t) k r (indexOf i)
     shown-lane i l =
-        let seen : List ℕ = laneOf x m (at t) k r (indexOf i) in
+        let seen : List ℕ = laneOf encryption R (at t) k r (indexOf i) in
         let out : List ℕ = replicate laneSize 0 in
         sym (if-done (reported x m t k r i laneSize can-seal k₁ kₙ r₁ rₙ l (omega arith)) (put 0 seen out) out)
-        ∙ put-whole seen out (lane-length (at t) (callAt k) (r - 1) keys inputs masks (indexOf i))
+        ∙ put-whole seen out (lane-length placed encryption-blocks blocks (at t) k r k₁ masks (indexOf i))
 
     pub joined : Joined x m t k r
-    unfolding laneOf join plainState plainKey
+    unfolding join plainState plainKey
     joined = record {
-      sized = λ i l. ap length (shown-lane i l) ∙ lane-length (at t) (callAt k) (r - 1) keys inputs masks (indexOf i);
+      sized = λ i l. ap length (shown-lane i l) ∙ lane-length placed encryption-blocks blocks (at t) k r k₁ masks (indexOf i);
       twice = λ i l.
           ap (part 16 16) (shown-lane i l)
-          ∙ lane-twice (at t) (callAt k) (r - 1) keys inputs masks (indexOf i)
-          ∙ ap (part 0 16) (ap (laneOf x m (at t) k r) (sym (index-next i l)) ∙ sym (shown-lane ((i + 1) % 3) (omega arith)));
+          ∙ lane-twice placed encryption-blocks blocks (at t) k r k₁ masks (indexOf i)
+          ∙ ap (part 0 16) (ap (laneOf encryption R (at t) k r) (sym (index-next i l)) ∙ sym (shown-lane ((i + 1) % 3) (omega arith)));
       states =
           parts 0
-          ∙ states-join (at t) (callAt k) (r - 1) keys inputs masks
-          ∙ (λ z. after (r - 1) (key z) (input-join x m (at t) F b reads call number z ⊕ key z));
-      keys = parts 32 ∙ keys-join (at t) (callAt k) (r - 1) keys inputs masks ∙ ap₂ rotated (omega arith) key;
+          ∙ states-join placed encryption-blocks blocks (at t) encryption-joins plain
+          (sealing-joins x m (S .formed) (S .message-bytes)) k r k₁ kₙ masks
+          ∙ plain-after _ _ (r - 1)
+          ∙ ap (λ (z : List ℕ). after (r - 1) z (plain k ⊕ z)) key;
+      keys =
+          parts 32
+          ∙ keys-join placed encryption-blocks blocks (at t) encryption-joins plain
+          (sealing-joins x m (S .formed) (S .message-bytes)) k r k₁ kₙ masks
+          ∙ ap₂ rotated (omega arith) key;
     }
       where
-        number : callNumber (blockCount (length m)) call ≤ callCount (blockCount (length m))
-        number = omega (arith, number-call (blockCount (length m)) k k₁)
+        plain : ℕ → List ℕ
+        plain k = plainInput (joinedKE x) (joinedKM x) (x .number) (x .last + 1) m (callOf n k)
 
-        key : join (keyShares x m (at t) call) ≡ ofKey (joinedKE x) (joinedKM x) call
-        key = key-join x m (at t) F b reads call
+        key : join (R .given k) ≡ ofKey (joinedKE x) (joinedKM x) (callOf n k)
+        key = given-join x m (S .formed) (S .message-bytes) (callOf n k)
 
         parts : (p : ℕ)
-            → part p 16 (shown x m t k r 0) ⊕ (part p 16 (shown x m t k r 1) ⊕ part p 16 (shown x m t k r 2)) ≡ join (λ i. part p 16 (laneOf x m (at t) k r i))
-        parts p = λ z. part p 16 (shown-lane 0 (omega arith) z) ⊕ (part p 16 (shown-lane 1 (omega arith) z) ⊕ part p 16 (shown-lane 2 (omega arith) z))
+            → part p 16 (shown x m t k r 0) ⊕ (part p 16 (shown x m t k r 1) ⊕ part p 16 (shown x m t k r 2))
+            ≡ join (λ i. part p 16 (laneOf encryption R (at t) k r i))
+        parts p = λ z.
+            part p 16 (shown-lane 0 (omega arith) z) ⊕ (part p 16 (shown-lane 1 (omega arith) z) ⊕ part p 16 (shown-lane 2 (omega arith) z))
 
   -- ---- from round to round
 
-  pub followed : (k r i : ℕ) → 1 ≤ k → k ≤ callCount (blockCount (length m)) → 1 ≤ r → r < rounds → i < 3
+  pub followed : (k r i : ℕ) → 1 ≤ k → k ≤ callCount n → 1 ≤ r → r < rounds → i < 3
       → part 0 16 (shown x m t k (r + 1) i)
-      ≡ roundOnLane (r - 1) (isFirst (next (indexOf i))) (shown x m t k r ((i + 1) % 3)) ⊕ masksAt (at t) (masksOf k (r + 1)) (next (indexOf i))
+      ≡ roundOnLane (r - 1) (isFirst (next (indexOf i))) (shown x m t k r ((i + 1) % 3))
+      ⊕ masksAt (at t) (masksOf k (r + 1)) (next (indexOf i))
   unfolding laneOf
   followed k r i k₁ kₙ r₁ rₙ l =
-      let c : Call = callOf (blockCount (length m)) k in
       let up : r + 1 - 1 ≡ suc (r - 1) = omega arith in
+      let all : Reads (at t) (callAt k + pairSize * suc (r - 1) + pairSize) = λ p h. reads p (omega arith) in
+      let keys = key-blocks placed encryption-blocks blocks (at t) k _ (omega arith) all in
+      let inputs = input-blocks placed encryption-blocks blocks (at t) k _ k₁ (omega arith) all in
       ap (part 0 16) (shown-lane k (r + 1) k₁ kₙ (omega arith) (omega arith) i l
-      ∙ ap (λ (n : ℕ). lane (keyShares x m (at t) c) (inputOf x m (at t) c) (at t) (callAt k) n (indexOf i)) up)
-      ∙ lane-next (at t) (callAt k) (r - 1) (key-blocks x m (at t) F b c low) (input-blocks x m (at t) F b c low) (λ p h. reads p (omega arith)) (indexOf i)
-      ∙ ap₂ (λ (s : List ℕ) (n : ℕ). roundOnLane (r - 1) (isFirst (next (indexOf i))) s ⊕ masksAt (at t) (callAt k + pairSize * n) (next (indexOf i)))
-      (ap (laneOf x m (at t) k r) (sym (index-next i l)) ∙ sym (shown-lane k r k₁ kₙ r₁ (omega arith) ((i + 1) % 3) (omega arith)))
+      ∙ ap (λ (q : ℕ). lane encryption (keyShares encryption R (at t) k) (inputOf encryption R (at t) k) (at t) (callAt k) q
+      (indexOf i)) up)
+      ∙ lane-follows (at t) (callAt k) (r - 1) keys inputs all (indexOf i)
+      ∙ ap₂ (λ (s : List ℕ) (q : ℕ).
+      roundOnLane (r - 1) (isFirst (next (indexOf i))) s ⊕ masksAt (at t) (callAt k + pairSize * q) (next (indexOf i)))
+      (ap (laneOf encryption R (at t) k r) (sym (index-next i l)) ∙ sym (shown-lane k r k₁ kₙ r₁ (omega arith) ((i + 1) % 3) (omega arith)))
       (sym up)
 
   -- ---- the tag's shares: the last round of the last call
 
   tag-blocks : Blocks (tagShares x m (at t))
-  unfolding tagShares
-  tag-blocks = let n : ℕ = blockCount (length m) in run-blocks x m (at t) F b (mac n) (macIn-blocks x m (at t) F b n low) low
+  tag-blocks = output-blocks placed encryption-blocks blocks (at t) (callCount n) (omega arith) (λ p h. reads p (omega arith))
 
   pub tag-size : length (flat (tagShares x m (at t))) ≡ 48
   tag-size = parts-length (tag-blocks _) (tag-blocks _) (tag-blocks _)
 
-  pub tag-lane : (i : ℕ) → i < 3 → part (16 * i) 16 (sealShares x m t o)
-      ≡ roundOnLane (rounds - 1) (isFirst (indexOf i)) (shown x m t (callCount (blockCount (length m))) rounds i)
-  unfolding tagShares run laneOf inputOf
+  pub tag-lane : (i : ℕ) → i < 3
+      → part (16 * i) 16 (sealShares x m t o) ≡ roundOnLane (rounds - 1) (isFirst (indexOf i)) (shown x m t (callCount n) rounds i)
+  unfolding outputOf laneOf
   tag-lane i l =
-      let n : ℕ = blockCount (length m) in
-      let d : n + 2 + n ≡ callCount n = omega arith in
+      let k : ℕ = callCount n in
+      let all : Reads (at t) (tapeNeed (length m)) = reads in
       ap (part (16 * i) 16) (sym (if-done returned (flat (tagShares x m (at t))) (replicate 48 0)))
       ∙ part-flat (tagShares x m (at t)) tag-blocks i l
-      ∙ call-lane (at t) (callAt (n + 2 + n)) (key-blocks x m (at t) F b (mac n) low) (macIn-blocks x m (at t) F b n low) (λ p h. reads p (omega arith)) (indexOf i)
+      ∙ call-lane (at t) (callAt k) (key-blocks placed encryption-blocks blocks (at t) k _ (omega arith) all)
+      (input-blocks placed encryption-blocks blocks (at t) k _ (omega arith) (omega arith) all) (λ p h. reads p (omega arith)) (indexOf i)
       ∙ ap (roundOnLane (rounds - 1) (isFirst (indexOf i)))
-      (ap₂ (λ (c : Call) (k : ℕ). lane (keyShares x m (at t) c) (inputOf x m (at t) c) (at t) (callAt k) (rounds - 1) (indexOf i)) (sym (call-last n)) d
-      ∙ sym (shown-lane (callCount n) rounds (omega arith) (omega arith) (omega arith) (omega arith) i l))
+      (sym (shown-lane k rounds (omega arith) (omega arith) (omega arith) (omega arith) i l))
+
+-- ---- two accepted sealings of messages of one length: exactly one tape shows with the second the lane seen with the first
+
+pub exactly-one : (S T : AcceptedSealing) → length (S .message) ≡ length (T .message)
+    → (k r i : ℕ) → 1 ≤ k → k ≤ callCount (blockCount (length (S .message))) → 1 ≤ r → r ≤ pairCount → i < 3
+    → ExactlyOne (SameLane S T k r i)
+exactly-one S T e k r i k₁ kₙ r₁ rₙ l =
+    one-accepted (shown-lane S k r k₁ kₙ r₁ rₙ i l)
+    (λ w d. accepted-with T w (let long = can-seal S .long in omega arith))
+    (λ w bw A. shown-lane (with-tape T w bw A) k r k₁ (omega (arith, same)) r₁ rₙ i l)
+    (one-tape-run encryption-blocks k k₁ encryption-turns (placed S) (blocks S) (placed T) (blocks T)
+    (ap (λ (z : ℕ). keyAt (callOf z k)) same) refl r (S .tape) (S .tape-bytes) (omega (arith, can-seal S .long)) (indexOf i))
+  where
+    same : blockCount (length (T .message)) ≡ blockCount (length (S .message))
+    same = ap (λ (z : ℕ). blockCount z) (sym e)

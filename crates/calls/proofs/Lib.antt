@@ -1,11 +1,9 @@
-pub mod Calls
+pub mod Numbered
 pub mod Shape
-pub mod Causal
+pub mod Used
 pub mod Joins
 pub mod Accepted
 pub mod Lanes
-pub mod OneTape
 pub mod Total
 pub mod Right
 pub mod ProbeProof
-pub mod Used

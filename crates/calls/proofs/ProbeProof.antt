@@ -10,36 +10,37 @@ use Rattle.blocks.specs.Put.{part, put}
 use Rattle.baksheesh.specs.Baksheesh.{rounds}
 use Rattle.modes.specs.Pieces.{blockCount}
 use Rattle.links.specs.declared.Sender.{Sender}
-use Rattle.shares.specs.Shares.{next, isFirst}
-use Rattle.shares.specs.Tape.{at, masksAt}
-use Rattle.shares.specs.Call.{state}
-use Rattle.shares.specs.OneTape.{ExactlyOne, roundOnLane}
-use Rattle.shares.proofs.Causal.{Agree, state-agree}
-use Rattle.shares.proofs.Tape.{take-agree}
+use Rattle.masking.specs.Shares.{next, isFirst}
+use Rattle.masking.specs.Tape.{at, masksAt}
+use Rattle.masking.specs.Stages.{state, lane}
+use Rattle.masking.specs.Call.{encryption, pairCount}
+use Rattle.masking.specs.OneTape.{ExactlyOne, roundOnLane}
+use Rattle.masking.proofs.Causal.{Agree, state-agree}
+use Rattle.masking.proofs.Tape.{take-agree}
 use Rattle.answers.specs.Answer.{numberOf, Accepts}
 use Rattle.answers.proofs.First.{if-done}
-use Rattle.calls.specs.Calls.{callNumber, callOf, callCount, callAt}
-use Rattle.calls.specs.Sealed.{keyShares, inputOf}
+use Rattle.calls.specs.Numbered.{callCount, callAt}
+use Rattle.runs.specs.Run.{keyShares, inputOf, laneOf}
+use Rattle.runs.proofs.Run.{key-agree, input-agree}
+use Rattle.calls.specs.Sealed.{sealingCalls}
 use Rattle.calls.specs.Entry.{sealShares, laneSize, reportAnswer, reportOutput, indexOf}
 use Rattle.calls.specs.Demand.{AcceptedSealing, shown, masksOf, SameLane, Joined}
-use Rattle.calls.proofs.Calls.{number-call}
-use Rattle.calls.proofs.Causal.{key-agree, input-agree}
+use Rattle.calls.proofs.Shape.{sealing-placed}
 use Rattle.calls.proofs.Accepted.{reported}
-use Rattle.calls.proofs.Lanes.{can-seal, shown-lane, joined, followed, tag-lane}
-use Rattle.calls.proofs.OneTape.{exactly-one}
+use Rattle.calls.proofs.Lanes.{can-seal, shown-lane, joined, followed, tag-lane, exactly-one}
 
 -- two accepted sealings of equal message length, whatever their links, keys, texts and tapes; any lane of any round of any call:
 -- exactly one tape, differing from the first's only in that round's 32 mask bytes and the lane's 16 key mask bytes, makes the second
 -- show the same lane
 pub fits-every-key : (S T : AcceptedSealing) → length (S .message) ≡ length (T .message)
-    → (k r i : ℕ) → 1 ≤ k → k ≤ callCount (blockCount (length (S .message))) → 1 ≤ r → r ≤ rounds → i < 3
+    → (k r i : ℕ) → 1 ≤ k → k ≤ callCount (blockCount (length (S .message))) → 1 ≤ r → r ≤ pairCount → i < 3
     → ExactlyOne (SameLane S T k r i)
 fits-every-key = exactly-one
 
 -- the three lanes of any round of any call of an accepted sealing: a state share stands in two of them with the same bytes; the three
 -- distinct state shares XOR to the state that the plain cipher, on that call's joined input and key, has on entering the round, and the
 -- key shares to the key that it adds at the round's end
-pub lanes-join : (S : AcceptedSealing) (k r : ℕ) → 1 ≤ k → k ≤ callCount (blockCount (length (S .message))) → 1 ≤ r → r ≤ rounds
+pub lanes-join : (S : AcceptedSealing) (k r : ℕ) → 1 ≤ k → k ≤ callCount (blockCount (length (S .message))) → 1 ≤ r → r ≤ pairCount
     → Joined (S .link) (S .message) (S .tape) k r
 lanes-join = joined
 
@@ -54,13 +55,23 @@ tag-shares = tag-lane
 -- ---- what the three speak of
 
 -- the report of such a lane is accepted with every output of at least 48 bytes, and writes the lane, whatever the output held
-pub report-lane : (S : AcceptedSealing) (k r i : ℕ) → 1 ≤ k → k ≤ callCount (blockCount (length (S .message))) → 1 ≤ r → r ≤ rounds → i < 3
+pub report-lane : (S : AcceptedSealing) (k r i : ℕ) → 1 ≤ k → k ≤ callCount (blockCount (length (S .message))) → 1 ≤ r → r ≤ pairCount
+    → i < 3
     → (o : List ℕ) → laneSize ≤ length o
     → Accepts (reportAnswer (S .link) (S .message) (S .tape) k r i (length o))
     × (reportOutput (S .link) (S .message) (S .tape) k r i o ≡ put 0 (shown (S .link) (S .message) (S .tape) k r i) o)
 report-lane S k r i k₁ kₙ r₁ rₙ l o h =
     let answer = reported (S .link) (S .message) (S .tape) k r i (length o) (can-seal S) k₁ kₙ r₁ rₙ l h in
     (ap numberOf answer, sym (if-done answer _ o) ∙ ap (λ (s : List ℕ). put 0 s o) (sym (shown-lane S k r k₁ kₙ r₁ rₙ i l)))
+
+-- it is a lane of the numbered call, on the key shares and the input of which the call makes its output
+pub lanes-used : (S : AcceptedSealing) (k r i : ℕ) → 1 ≤ k → k ≤ callCount (blockCount (length (S .message))) → 1 ≤ r → r ≤ pairCount
+    → i < 3
+    → let R = sealingCalls (S .link) (S .message) in let M = at (S .tape) in
+    shown (S .link) (S .message) (S .tape) k r i
+    ≡ lane encryption (keyShares encryption R M k) (inputOf encryption R M k) M (callAt k) (r - 1) (indexOf i)
+unfolding laneOf
+lanes-used S k r i k₁ kₙ r₁ rₙ l = shown-lane S k r k₁ kₙ r₁ rₙ i l
 
 -- what a round makes of a share needs its lane alone: with the next round's mask it is the share that the next round's lanes show
 pub lanes-follow : (S : AcceptedSealing) (k r i : ℕ) → 1 ≤ k → k ≤ callCount (blockCount (length (S .message))) → 1 ≤ r → r < rounds → i < 3
@@ -70,13 +81,10 @@ pub lanes-follow : (S : AcceptedSealing) (k r i : ℕ) → 1 ≤ k → k ≤ cal
 lanes-follow = followed
 
 -- on entering round r of call k, before its masks, all hangs on the tape before them
-pub causal : (x : Sender) (m t u : List ℕ) (k r : ℕ) → 1 ≤ k → take (masksOf k r) t ≡ take (masksOf k r) u
-    → let c = callOf (blockCount (length m)) k in
-    state (keyShares x m (at t) c) (inputOf x m (at t) c) (at t) (callAt k) (r - 1)
-    ≡ state (keyShares x m (at u) c) (inputOf x m (at u) c) (at u) (callAt k) (r - 1)
+pub causal : (x : Sender) (m t u : List ℕ) (k r : ℕ) → 1 ≤ k → take (masksOf k r) t ≡ take (masksOf k r) u → let R = sealingCalls x m in
+    state encryption (keyShares encryption R (at t) k) (inputOf encryption R (at t) k) (at t) (callAt k) (r - 1)
+    ≡ state encryption (keyShares encryption R (at u) k) (inputOf encryption R (at u) k) (at u) (callAt k) (r - 1)
 causal x m t u k r k₁ e =
-    let n : ℕ = blockCount (length m) in
-    let number : callNumber n (callOf n k) ≡ k = number-call n k k₁ in
     let agree : Agree (at t) (at u) (masksOf k r) = take-agree t u (masksOf k r) e in
-    state-agree (at t) (at u) (callAt k) (key-agree x m (at t) (at u) (callOf n k) (λ p h. agree p (omega arith)))
-    (input-agree x m (at t) (at u) (callOf n k) (λ p h. agree p (omega arith))) (r - 1) agree
+    state-agree encryption (at t) (at u) (callAt k) (key-agree (sealing-placed x m) (at t) (at u) k _ (omega arith) agree)
+    (input-agree (sealing-placed x m) (at t) (at u) k k₁ (λ p h. agree p (omega arith))) (r - 1) agree

@@ -11,22 +11,26 @@ use Rattle.blocks.specs.Put.{part, put}
 use Rattle.blocks.proofs.Parts.{part-part}
 use Rattle.answers.specs.Answer.{done}
 use Rattle.answers.proofs.First.{if-done}
-use Rattle.links.specs.Record.{recordSize, sequenceIn}
+use Rattle.baksheesh.specs.Baksheesh.{encrypt}
+use Rattle.baksheesh.proofs.Inverse.{encrypt-block}
+use Rattle.modes.specs.Pieces.{blockCount}
+use Rattle.modes.proofs.Ctr.{ctr-same}
+use Rattle.links.specs.Record.{standard, recordSize, recordOf, sequenceIn}
 use Rattle.links.specs.Links.{senderOf}
 use Rattle.links.specs.declared.Sender.{Sender}
 use Rattle.plain.specs.Plain.{plainRecord}
 use Rattle.plain.specs.Entry.{plainAnswer, plainOutput}
 use Rattle.plain.proofs.Sealed.{plain-sequence}
-use Rattle.shares.specs.Shares.{join, sharesIn, flat}
-use Rattle.shares.specs.Tape.{at}
-use Rattle.shares.proofs.Causal.{Agree}
-use Rattle.shares.proofs.Tape.{take-agree}
-use Rattle.calls.specs.Calls.{tapeNeed}
-use Rattle.calls.specs.Sealed.{sealedRecord}
+use Rattle.masking.specs.Shares.{Shares, join, sharesIn, flat}
+use Rattle.masking.specs.Tape.{at}
+use Rattle.masking.proofs.Causal.{Agree}
+use Rattle.masking.proofs.Tape.{take-agree}
+use Rattle.calls.specs.Numbered.{callCount, tapeNeed}
+use Rattle.runs.proofs.Run.{output-agree, lane-agrees}
+use Rattle.calls.specs.Sealed.{ciphertext, tagShares, sealedRecord}
 use Rattle.calls.specs.Entry.{advanced, sealAnswer, sealLink, sealOutput, laneSize, indexOf}
 use Rattle.calls.specs.Demand.{Accepted, AcceptedSealing, joinedKE, joinedKM, SameSealing}
-use Rattle.calls.proofs.Shape.{ke-block, km-block}
-use Rattle.calls.proofs.Causal.{laneOf-agree, tagShares-agree, record-agree}
+use Rattle.calls.proofs.Shape.{ke-block, km-block, sealing-placed}
 use Rattle.calls.proofs.Joins.{record-join}
 use Rattle.calls.proofs.Accepted.{values, sealable, reported, plain-done}
 use Rattle.calls.proofs.Lanes.{can-seal, returned, reads, accepted-with}
@@ -36,19 +40,22 @@ use Rattle.calls.proofs.Total.{advanced-formed}
 
 -- the record is the one of plain sealing under the joined keys, with the link's number and its next sequence number
 pub same-record : (S : AcceptedSealing) → let x = S .link in
-    sealedRecord x (S .message) (at (S .tape)) ≡ plainRecord (joinedKE x) (joinedKM x) (x .number) (x .last + 1) (S .message)
-same-record S = record-join (S .link) (S .message) (at (S .tape)) (S .formed) (S .message-bytes) (reads S)
+    sealedRecord x (S .message) (at (S .tape))
+    ≡ plainRecord standard (encrypt (joinedKE x)) (encrypt (joinedKM x)) (x .number) (x .last + 1) (S .message)
+same-record S = record-join (S .link) (S .message) (S .formed) (S .message-bytes) (at (S .tape)) (reads S)
 
 -- plain sealing with these is then accepted too, and leaves the same output
 pub same-answer : (S : AcceptedSealing) → let x = S .link in
-    plainAnswer (joinedKE x ++ joinedKM x) (x .last + 1) (S .message) (length (S .out)) ≡ done (recordSize (length (S .message)) ∷ [])
+    plainAnswer standard (joinedKE x ++ joinedKM x) (x .last + 1) (S .message) (length (S .out))
+    ≡ done (recordSize standard (length (S .message)) ∷ [])
 same-answer S =
     let x = S .link in
     plain-done x (S .message) (S .tape) (length (S .out)) (S .accepted) (joinedKE x ++ joinedKM x) (x .last + 1)
     (simp length-append (omega (arith, ke-block (S .formed) .size, km-block (S .formed) .size))) (omega arith)
 
 pub same-output : (S : AcceptedSealing) → let x = S .link in
-    sealOutput x (S .message) (S .tape) (S .out) ≡ plainOutput (joinedKE x ++ joinedKM x) (x .number) (x .last + 1) (S .message) (S .out)
+    sealOutput x (S .message) (S .tape) (S .out)
+    ≡ plainOutput standard encrypt (joinedKE x ++ joinedKM x) (x .number) (x .last + 1) (S .message) (S .out)
 same-output S =
     let x = S .link in
     let m : List ℕ = S .message in
@@ -59,45 +66,53 @@ same-output S =
     ∙ take-all 16 (joinedKM x) (omega (arith, km-block (S .formed) .size)) in
     sym (if-done (returned S) _ o)
     ∙ ap (λ (r : List ℕ). put 0 r o)
-    (same-record S ∙ ap₂ (λ (e k : List ℕ). plainRecord e k (x .number) (x .last + 1) m) (sym ke) (sym km))
+    (same-record S ∙ ap₂ (λ (e k : List ℕ). plainRecord standard (encrypt e) (encrypt k) (x .number) (x .last + 1) m) (sym ke) (sym km))
     ∙ if-done (same-answer S) _ _
 
 -- the record carries the number after the link's last, and the link that comes back has that for its last
 pub next-number : (S : AcceptedSealing) → let x = S .link in
-    (sequenceIn (sealedRecord x (S .message) (at (S .tape))) ≡ x .last + 1) × (sealLink x (S .message) (S .tape) (length (S .out)) ≡ advanced x)
+    (sequenceIn standard (sealedRecord x (S .message) (at (S .tape))) ≡ x .last + 1)
+    × (sealLink x (S .message) (S .tape) (length (S .out)) ≡ advanced x)
 next-number S =
     let x = S .link in
     let m : List ℕ = S .message in
     let o : ℕ = length (S .out) in (
-      ap (λ (r : List ℕ). sequenceIn r) (same-record S)
-          ∙ plain-sequence (ke-block (S .formed)) (km-block (S .formed)) (x .number) (x .last + 1) m (S .message-bytes) (advanced-formed x m (S .tape) o (S .formed) (S .accepted) .last),
+      ap (λ (r : List ℕ). sequenceIn standard r) (same-record S)
+          ∙ plain-sequence standard (record { sequence = omega arith; tag = omega arith }) _ _
+          (λ k. encrypt-block _ k (ke-block (S .formed))) (λ k. encrypt-block _ k (km-block (S .formed)))
+          (x .number) (x .last + 1) m (S .message-bytes) (advanced-formed x m (S .tape) o (S .formed) (S .accepted) .last),
       sym (if-done (values x m (S .tape) o (S .accepted)) (advanced x) x),
     )
 
 -- a link keyed with 96 bytes has three shares of KE, then of KM, one behind the other
 pub keyed-keys : (n : ℕ) (keys : List ℕ) → let x = senderOf n keys in
-    (joinedKE x ≡ part 0 16 keys ⊕ (part 16 16 keys ⊕ part 32 16 keys)) × (joinedKM x ≡ part 48 16 keys ⊕ (part 64 16 keys ⊕ part 80 16 keys))
+    (joinedKE x ≡ part 0 16 keys ⊕ (part 16 16 keys ⊕ part 32 16 keys))
+    × (joinedKM x ≡ part 48 16 keys ⊕ (part 64 16 keys ⊕ part 80 16 keys))
 unfolding join
 keyed-keys n keys = (shares 0 16 32 (omega arith) (omega arith), shares 48 64 80 (omega arith) (omega arith))
   where
     shares : (p q r : ℕ) → q ≡ p + 16 → r ≡ p + 32 → join (sharesIn (part p 48 keys)) ≡ part p 16 keys ⊕ (part q 16 keys ⊕ part r 16 keys)
     shares p q r eq er =
         let e : p ≡ p + 0 = omega arith in
-        λ i. part-part p 48 0 16 p keys (omega arith) e i ⊕ (part-part p 48 16 16 q keys (omega arith) eq i ⊕ part-part p 48 32 16 r keys (omega arith) er i)
+        λ i.
+        part-part p 48 0 16 p keys (omega arith) e i
+        ⊕ (part-part p 48 16 16 q keys (omega arith) eq i ⊕ part-part p 48 32 16 r keys (omega arith) er i)
 
 -- ---- the tape
 
 -- with any tape that has the same bytes up to the need, sealing and the report do the same
 pub rest-unread : (S : AcceptedSealing) (u : List ℕ) → let n = tapeNeed (length (S .message)) in take n u ≡ take n (S .tape)
     → SameSealing (S .link) (S .message) (S .out) (S .tape) u
+unfolding sealedRecord ciphertext
 rest-unread S u e = record {
   answer = v ∙ sym (returned S);
   link = sym (if-done v (advanced x) x) ∙ if-done (returned S) (advanced x) x;
-  tag-shares = sym (if-done v _ (replicate 48 0)) ∙ ap flat (tagShares-agree x m (at u) (at t) agree) ∙ if-done (returned S) _ (replicate 48 0);
-  output = sym (if-done v _ (S .out)) ∙ ap (λ (r : List ℕ). put 0 r (S .out)) (record-agree x m (at u) (at t) agree) ∙ if-done (returned S) _ (S .out);
+  tag-shares = sym (if-done v _ (replicate 48 0)) ∙ ap flat tag-agrees ∙ if-done (returned S) _ (replicate 48 0);
+  output = sym (if-done v _ (S .out)) ∙ ap (λ (r : List ℕ). put 0 r (S .out)) record-agrees ∙ if-done (returned S) _ (S .out);
   lanes = λ k r i k₁ kₙ r₁ rₙ l.
       sym (if-done (reported x m u k r i laneSize (sealable x m u o A) k₁ kₙ r₁ rₙ l (omega arith)) _ (replicate laneSize 0))
-      ∙ ap (λ (s : List ℕ). put 0 s (replicate laneSize 0)) (laneOf-agree x m (at u) (at t) k r k₁ r₁ (λ p h. agree p (omega arith)) (indexOf i))
+      ∙ ap (λ (s : List ℕ). put 0 s (replicate laneSize 0))
+      (lane-agrees (sealing-placed x m) (at u) (at t) k r k₁ (λ p h. agree p (omega arith)) (indexOf i))
       ∙ if-done (reported x m t k r i laneSize (can-seal S) k₁ kₙ r₁ rₙ l (omega arith)) _ (replicate laneSize 0);
 }
   where
@@ -116,11 +131,22 @@ rest-unread S u e = record {
     agree : Agree (at u) (at t) (tapeNeed (length m))
     agree = take-agree u t (tapeNeed (length m)) e
 
+    tag-agrees : tagShares x m (at u) ≡ tagShares x m (at t)
+    tag-agrees = output-agree (sealing-placed x m) (at u) (at t) (callCount (blockCount (length m))) (omega arith)
+        (λ p h. agree p (omega arith))
+
+    record-agrees : sealedRecord x m (at u) ≡ sealedRecord x m (at t)
+    record-agrees =
+        ap₂ (λ (c : List ℕ) (s : Shares). recordOf standard (x .number) (x .last + 1) c (take (standard .tag) (join s)))
+        (ctr-same (λ b. b) (λ b. b) _ _ m
+        (λ j l. ap join (output-agree (sealing-placed x m) (at u) (at t) (1 + j) (omega arith) (λ p h. agree p (omega arith)))))
+        tag-agrees
+
     long : tapeNeed (length m) ≤ length u
     long = omega (arith, can-seal S .long, length-take (tapeNeed (length m)) u, length-take (tapeNeed (length m)) t, ap length e)
 
     A : Accepted x m u o
     A = accepted-with S u long
 
-    v : sealAnswer x m u o ≡ done (recordSize (length m) ∷ tapeNeed (length m) ∷ [])
+    v : sealAnswer x m u o ≡ done (recordSize standard (length m) ∷ tapeNeed (length m) ∷ [])
     v = values x m u o A

@@ -1,8 +1,8 @@
--- Every share of a sealing is a block. Assumes nothing.
+-- The calls of a sealing are a run: their masks are placed, and every share is a block. Assumes nothing.
 use mathlib.Core.Path.{_≡_}
 use mathlib.Core.Bool.{Bool, true, false, cond}
 use mathlib.Core.List.{List}
-use Prim.Native.Nat.{ℕ, zero, suc, _+_, _-_, _*_, _≤_}
+use Prim.Native.Nat.{ℕ, zero, suc, _+_, _-_, _≤_}
 use native.Mathlib.Decide.{decLt}
 use native.Mathlib.Omega.{arith}
 use lib.ListN.{length, take, replicate, length-append, length-take, length-replicate}
@@ -11,20 +11,21 @@ use Rattle.blocks.specs.Bytes.{Bytes, Block}
 use Rattle.blocks.specs.Put.{part}
 use Rattle.blocks.proofs.Xor.{⊕-block, bytes-take, bytes-append, bytes-replicate, zeros-block}
 use Rattle.blocks.proofs.Parts.{part-length, part-bytes}
-use Rattle.modes.specs.Pieces.{piece}
+use Rattle.modes.specs.Pieces.{blockCount, piece}
 use Rattle.modes.specs.Cmac.{padded}
 use Rattle.modes.proofs.Pieces.{piece-le, piece-bytes}
 use Rattle.modes.proofs.Cmac.{padded-block}
 use Rattle.modes.proofs.Doubled.{doubled-block}
 use Rattle.links.proofs.Record.{counter-block}
 use Rattle.links.specs.declared.Sender.{Sender}
-use Rattle.shares.specs.Shares.{Index, Shares, Blocks, sharesIn}
-use Rattle.shares.specs.Tape.{Reader, pairSize}
-use Rattle.shares.proofs.Shape.{Reads, three-blocks, add-blocks, only-blocks, join-block, masksAt-blocks, call-blocks}
-use Rattle.calls.specs.Calls.{Call, ctr, sub, mac, callNumber, ofKey, keyAt, callAt}
-use Rattle.calls.specs.Sealed.{cut, completed, count, keyShares, run, ctrOut, subkey, macBlock, chain, macIn, inputOf}
+use Rattle.masking.specs.Shares.{Index, Shares, Blocks, sharesIn}
+use Rattle.masking.specs.Call.{encryption}
+use Rattle.masking.proofs.Shape.{three-blocks, add-blocks, only-blocks, join-block}
+use Rattle.runs.proofs.Run.{Placed, RunBlocks}
+use Rattle.calls.specs.Numbered.{Call, ctr, sub, mac, callOf, ofKey}
+use Rattle.calls.specs.Sealed.{cut, completed, sealingCalls, subkey, macBlock, chain, inputFrom}
 use Rattle.calls.specs.Demand.{Formed, joinedKE, joinedKM}
-use Rattle.calls.proofs.Calls.{key-low}
+use Rattle.calls.proofs.Numbered.{key-low}
 
 -- ---- shares in a link, and parts of a message
 
@@ -66,53 +67,50 @@ cond-blocks : (t : Bool) (s u : Shares) (i : Index) → Block (s i) → Block (u
 cond-blocks true s u i p q = p
 cond-blocks false s u i p q = q
 
--- ---- the shares of a sealing
+-- ---- the calls of a sealing
 
-module _ (x : Sender) (m : List ℕ) (M : Reader) (F : Formed x) (b : Bytes m) where
-  pub given-blocks : (c : Call) → Blocks (sharesIn (ofKey (x .ke) (x .km) c))
+-- their masks stand one behind the other, behind those of the keys
+pub sealing-placed : (x : Sender) (m : List ℕ) → Placed encryption (sealingCalls x m)
+sealing-placed x m = record {
+  keys-before = λ j k. omega (arith, key-low (callOf (blockCount (length m)) j));
+  calls-apart = λ j k l h. omega arith;
+}
+
+module _ (x : Sender) (m : List ℕ) (F : Formed x) (b : Bytes m) where
+  given-blocks : (c : Call) → Blocks (sharesIn (ofKey (x .ke) (x .km) c))
   given-blocks (ctr j) = shares-in (x .ke) (F .ke-size) (F .ke-bytes)
   given-blocks sub = shares-in (x .km) (F .km-size) (F .km-bytes)
   given-blocks (mac j) = shares-in (x .km) (F .km-size) (F .km-bytes)
 
-  pub key-blocks : (c : Call) → Reads M (2 * pairSize) → Blocks (keyShares x m M c)
-  unfolding keyShares
-  key-blocks c h = add-blocks (given-blocks c) (masksAt-blocks M (keyAt c) (λ p k. h p (omega (arith, key-low c))))
+  module _ (f : ℕ → Shares) (fb : (j : ℕ) → Blocks (f j)) where
+    pub macBlock-blocks : (j : ℕ) → Blocks (macBlock x m f j)
+    unfolding macBlock
+    macBlock-blocks zero = only-blocks (counter-block _ _ 0)
+    macBlock-blocks (suc j) =
+        add-blocks (λ i. cut-block _ _ (piece-le j m) (fb _ i))
+        (only-blocks (completed-block (piece j m) (piece-bytes j m b) (piece-le j m)))
 
-  pub run-blocks : (c : Call) {s : Shares} → Blocks s → Reads M (2 * pairSize) → Blocks (run x m M c s)
-  unfolding run
-  run-blocks c p h = call-blocks M (callAt (callNumber (count x m M) c)) (key-blocks c h) p
+    chain-blocks : (j : ℕ) → Blocks (chain x m f j)
+    unfolding chain
+    chain-blocks zero = λ i. zeros-block
+    chain-blocks (suc j) = fb _
 
-  pub ctrOut-blocks : (j : ℕ) → Reads M (2 * pairSize) → Blocks (ctrOut x m M j)
-  unfolding ctrOut
-  ctrOut-blocks j h = run-blocks (ctr j) (only-blocks (counter-block _ _ j)) h
+    subkey-blocks : Blocks (subkey x m f)
+    unfolding subkey
+    subkey-blocks i = search (cond-block, doubled-block)
 
-  pub subkey-blocks : Reads M (2 * pairSize) → Blocks (subkey x m M)
-  unfolding subkey
-  subkey-blocks h i = search (cond-block, doubled-block)
+    input-blocks : (c : Call) → Blocks (inputFrom x m c f)
+    unfolding inputFrom
+    input-blocks (ctr j) i = only-blocks (counter-block _ _ j) i
+    input-blocks sub i = zeros-block
+    input-blocks (mac j) i =
+        let c = chain-blocks j i in
+        let k = subkey-blocks i in
+        let q = macBlock-blocks j i in
+        search (⊕-block, cond-blocks)
 
-  pub macBlock-blocks : (j : ℕ) → Reads M (2 * pairSize) → Blocks (macBlock x m M j)
-  unfolding macBlock
-  macBlock-blocks zero h i = search (counter-block, only-blocks)
-  macBlock-blocks (suc j) h i =
-      let q = piece-le j m in
-      let r = ctrOut-blocks j h i in
-      let w = completed-block (piece j m) (piece-bytes j m b) q in
-      search (⊕-block, cut-block, only-blocks)
-
-  pub chain-blocks : (j : ℕ) → Reads M (2 * pairSize) → Blocks (chain x m M j)
-  unfolding chain
-  chain-blocks zero h = λ i. zeros-block
-  chain-blocks (suc j) h = run-blocks (mac j) (add-blocks (chain-blocks j h) (macBlock-blocks j h)) h
-
-  pub macIn-blocks : (j : ℕ) → Reads M (2 * pairSize) → Blocks (macIn x m M j)
-  macIn-blocks j h i =
-      let c = chain-blocks j h i in
-      let k = subkey-blocks h i in
-      let q = macBlock-blocks j h i in
-      search (⊕-block, cond-blocks)
-
-  pub input-blocks : (c : Call) → Reads M (2 * pairSize) → Blocks (inputOf x m M c)
-  unfolding inputOf
-  input-blocks (ctr j) h = only-blocks (counter-block _ _ j)
-  input-blocks sub h = λ i. zeros-block
-  input-blocks (mac j) h = macIn-blocks j h
+  pub sealing-blocks : RunBlocks (sealingCalls x m)
+  sealing-blocks = record {
+    given-blocks = λ k. given-blocks (callOf (blockCount (length m)) k);
+    input-blocks = λ k f fb. input-blocks f fb (callOf (blockCount (length m)) k);
+  }

@@ -13,13 +13,16 @@ use Rattle.blocks.specs.Put.{put}
 use Rattle.blocks.proofs.Parts.{part-length, part-bytes}
 use Rattle.answers.specs.Answer.{done, refused, FirstOf}
 use Rattle.answers.proofs.First.{if-refused, refused-exactly}
-use Rattle.links.specs.Record.{numberSize, sequenceSize, greatest, longest, recordSize}
+use Rattle.links.specs.Record.{standard, numberSize, greatest, longest, recordSize}
 use Rattle.links.specs.Links.{senderKeys, senderOf}
 use Rattle.links.specs.declared.Sender.{Sender}
-use Rattle.shares.specs.Tape.{at}
-use Rattle.calls.specs.Calls.{tapeNeed}
-use Rattle.calls.specs.Sealed.{sealedRecord, laneOf}
-use Rattle.calls.specs.Entry.{sealCauses, sealAnswer, sealLink, advanced, sealOutput, reportCauses, reportAnswer, reportOutput, indexOf}
+use Rattle.masking.specs.Tape.{at}
+use Rattle.calls.specs.Numbered.{tapeNeed}
+use Rattle.masking.specs.Call.{encryption}
+use Rattle.runs.specs.Run.{laneOf}
+use Rattle.calls.specs.Sealed.{sealingCalls, sealedRecord}
+use Rattle.calls.specs.Entry.{sealCauses, sealAnswer, sealLink, advanced, sealOutput}
+use Rattle.calls.specs.Entry.{reportCauses, reportAnswer, reportOutput, indexOf}
 use Rattle.calls.specs.Demand.{Formed, Accepted, AcceptedSealing}
 use Rattle.calls.proofs.Accepted.{accepted, values, sealable, room}
 
@@ -28,7 +31,8 @@ use Rattle.calls.proofs.Accepted.{accepted, values, sealable, room}
 -- sealing is accepted exactly where the link is keyed and has a number left, the message has at most 256 bytes, and tape and output are
 -- long enough
 pub accepted-exactly : (x : Sender) (m t : List ℕ) (o : ℕ) → Accepted x m t o
-    ↔ ((x .keyed ≡ true) × (x .last ≡ greatest → ⊥) × (length m ≤ longest) × (tapeNeed (length m) ≤ length t) × (recordSize (length m) ≤ o))
+    ↔ ((x .keyed ≡ true) × (x .last ≡ greatest standard → ⊥) × (length m ≤ longest) × (tapeNeed (length m) ≤ length t)
+    × (recordSize standard (length m) ≤ o))
 accepted-exactly x m t o = (
   (λ A. let S = sealable x m t o A in (S .keyed, S .left, S .small, S .long, room x m t o A)),
   (λ h. accepted x m t o (record { keyed = h .0; left = h .1; small = h .2; long = h .3 }) (h .4)),
@@ -36,7 +40,7 @@ accepted-exactly x m t o = (
 
 -- an accepted sealing returns the length of the record and the tape bytes read
 pub accepted-values : (x : Sender) (m t : List ℕ) (o : ℕ) → Accepted x m t o
-    → sealAnswer x m t o ≡ done (recordSize (length m) ∷ tapeNeed (length m) ∷ [])
+    → sealAnswer x m t o ≡ done (recordSize standard (length m) ∷ tapeNeed (length m) ∷ [])
 accepted-values = values
 
 -- ---- links hold what they can
@@ -55,17 +59,24 @@ keyed-formed n keys h e b = record {
 pub advanced-formed : (x : Sender) (m t : List ℕ) (o : ℕ) → Formed x → Accepted x m t o → Formed (advanced x)
 advanced-formed x m t o F A =
     let fits = F .last in
-    let small : x .last + 1 < 256 ^ sequenceSize =
-    elim (decLt (x .last) greatest) [ yes l ↦ omega arith | no l ↦ absurd (sealable x m t o A .left (omega arith)) ] in
-    record { number = F .number; last = small; ke-size = F .ke-size; ke-bytes = F .ke-bytes; km-size = F .km-size; km-bytes = F .km-bytes }
+    let small : x .last + 1 < 256 ^ standard .sequence =
+    elim (decLt (x .last) (greatest standard)) [ yes l ↦ omega arith | no l ↦ absurd (sealable x m t o A .left (omega arith)) ] in
+    record {
+      number = F .number;
+      last = small;
+      ke-size = F .ke-size;
+      ke-bytes = F .ke-bytes;
+      km-size = F .km-size;
+      km-bytes = F .km-bytes;
+    }
 
 -- for every such link that is keyed and has a number left, every message of at most 256 bytes and every tape long enough there is an
 -- accepted sealing
 pub sealing-exists : (x : Sender) (m t : List ℕ) → Formed x → Bytes m → Bytes t
-    → x .keyed ≡ true → (x .last ≡ greatest → ⊥) → length m ≤ longest → tapeNeed (length m) ≤ length t
+    → x .keyed ≡ true → (x .last ≡ greatest standard → ⊥) → length m ≤ longest → tapeNeed (length m) ≤ length t
     → (S : AcceptedSealing) × (S .link ≡ x) × (S .message ≡ m) × (S .tape ≡ t)
 sealing-exists x m t F b bt keyed left small long =
-    let o : List ℕ = replicate (recordSize (length m)) 0 in (
+    let o : List ℕ = replicate (recordSize standard (length m)) 0 in (
       record {
         link = x;
         message = m;
@@ -100,4 +111,5 @@ refused-unchanged x m t o n e = (sym (if-refused e (advanced x) x), sym (if-refu
 
 pub unreported-unchanged : (x : Sender) (m t : List ℕ) (k r i : ℕ) (o : List ℕ) (n : ℕ) → reportAnswer x m t k r i (length o) ≡ refused n
     → reportOutput x m t k r i o ≡ o
-unreported-unchanged x m t k r i o n e = sym (if-refused e (put 0 (laneOf x m (at t) k r (indexOf i)) o) o)
+unreported-unchanged x m t k r i o n e =
+    sym (if-refused e (put 0 (laneOf encryption (sealingCalls x m) (at t) k r (indexOf i)) o) o)

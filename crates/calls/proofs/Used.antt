@@ -12,44 +12,53 @@ use Rattle.modes.specs.Pieces.{blockCount, piece}
 use Rattle.modes.specs.Cmac.{macCount, subkey₁, lastBlock, cmac}
 use Rattle.modes.specs.Cmac as Cmac
 use Rattle.modes.proofs.Pieces.{macCount-behind}
-use Rattle.modes.proofs.Ctr.{piece-ctr, ctrPiece-⊕}
+use Rattle.modes.proofs.Ctr.{ctr-length, piece-ctr, ctrPiece-⊕}
 use Rattle.links.specs.Record.{counterBlock}
 use Rattle.links.specs.declared.Sender.{Sender}
 use Rattle.links.proofs.Record.{counter-block}
 use Rattle.plain.specs.Plain.{crypted, authenticated}
-use Rattle.plain.proofs.Sealed.{crypted-length}
-use Rattle.shares.specs.Tape.{Reader}
-use Rattle.calls.specs.Sealed.{ctrOut, subkey, chain, inputOf, tagShares}
+use Rattle.masking.specs.Tape.{Reader}
+use Rattle.masking.specs.Call.{encryption}
+use Rattle.runs.specs.Run.{outputs, inputOf, outputOf}
+use Rattle.runs.proofs.Run.{output-at}
+use Rattle.calls.specs.Sealed.{sealingCalls, ciphertext, sealedRecord}
 use Rattle.calls.specs.Plain.{plainInput}
 use Rattle.calls.specs.Used.{CallsUsed, PlainCallsUsed}
 
 pub calls-used : (x : Sender) (m : List ℕ) (M : Reader) → CallsUsed x m M
-unfolding ctrOut subkey chain inputOf tagShares
+unfolding outputOf inputOf ciphertext sealedRecord
 calls-used x m M = record {
-  outputs = λ j. refl;
-  last-subkey = refl;
-  chained = λ j h. rw (ne-eqb j (blockCount (length m)) (λ e. omega arith)) refl;
-  tag = refl;
+  outputs = λ k. refl;
+  inputs = λ k. (
+    outputs encryption (sealingCalls x m) M (k - 1),
+    (λ j l h. output-at encryption (sealingCalls x m) M (k - 1) j l (omega arith)),
+    refl,
+  );
+  recorded = refl;
 }
+
+-- the ciphertext is as long as the message
+pub text-length : {ke : List ℕ} → Block ke → (n s : ℕ) (m : List ℕ) → length (crypted (encrypt ke) n s m) ≡ length m
+text-length {ke} p n s m = ctr-length (encrypt ke) (counterBlock n s) m (λ j h. encrypt-block ke _ p (counter-block n s j) .size)
 
 pub plain-calls-used : (ke km : List ℕ) → Block ke → Block km → (n s : ℕ) (m : List ℕ) → PlainCallsUsed ke km n s m
 unfolding plainInput subkey₁ Cmac.chain cmac
 plain-calls-used ke km p q n s m = record {
-  outputs = λ j h. piece-ctr (encrypt ke) (counterBlock n s) outputs m j h ∙ ctrPiece-⊕ (encrypt ke) (counterBlock n s) m j;
+  outputs = λ j h. piece-ctr (encrypt ke) (counterBlock n s) made m j h ∙ ctrPiece-⊕ (encrypt ke) (counterBlock n s) m j;
   first-subkey = refl;
   chained = λ j h. rw (ne-eqb j (blockCount (length m)) (λ e. omega arith)) refl;
-  tag =
+  code =
       let e : macCount whole - 1 ≡ blockCount (length m) =
-      omega (arith, macCount-behind (counterBlock n s 0) text (counter-block n s 0 .size), crypted-length p q n s m) in
+      omega (arith, macCount-behind (counterBlock n s 0) text (counter-block n s 0 .size), text-length p n s m) in
       ap (λ (k : ℕ). encrypt km (Cmac.chain (encrypt km) zeros whole k ⊕ lastBlock (encrypt km) (piece k whole))) e
       ∙ rw (eq-eqb (blockCount (length m)) (blockCount (length m)) refl) refl;
 }
   where
     text : List ℕ
-    text = crypted ke n s m
+    text = crypted (encrypt ke) n s m
 
     whole : List ℕ
     whole = authenticated n s text
 
-    outputs : (j : ℕ) → Block (encrypt ke (counterBlock n s j))
-    outputs j = encrypt-block ke _ p (counter-block n s j)
+    made : (j : ℕ) → Block (encrypt ke (counterBlock n s j))
+    made j = encrypt-block ke _ p (counter-block n s j)

@@ -7,21 +7,21 @@ use lib.ListN.{length, replicate}
 use Rattle.blocks.specs.Bytes.{Bytes, _⊕_}
 use Rattle.blocks.specs.Put.{part}
 use Rattle.answers.specs.Answer.{Accepts}
-use Rattle.baksheesh.specs.Baksheesh.{rounds}
 use Rattle.modes.specs.Pieces.{blockCount}
-use Rattle.links.specs.Record.{numberSize, sequenceSize}
+use Rattle.links.specs.Record.{standard, numberSize}
 use Rattle.links.specs.declared.Sender.{Sender}
-use Rattle.shares.specs.Shares.{join, sharesIn}
-use Rattle.shares.specs.Tape.{pairSize}
-use Rattle.shares.specs.OneTape.{Alike, laneMask}
-use Rattle.calls.specs.Calls.{callOf, callCount, keyAt, callAt}
+use Rattle.masking.specs.Shares.{join, sharesIn}
+use Rattle.masking.specs.Tape.{pairSize}
+use Rattle.masking.specs.Call.{pairCount}
+use Rattle.masking.specs.OneTape.{laneMask, Shows}
+use Rattle.calls.specs.Numbered.{callOf, callCount, keyAt, callAt}
 use Rattle.calls.specs.Plain.{plainState, plainKey}
 use Rattle.calls.specs.Entry.{sealAnswer, sealLink, sealShares, sealOutput, indexOf, laneSize, reportOutput}
 
 -- what the fields of a sending link can hold
 pub record Formed (x : Sender) : Type 0 where
   pub number : x .number < 256 ^ numberSize
-  pub last : x .last < 256 ^ sequenceSize
+  pub last : x .last < 256 ^ standard .sequence
   pub ke-size : length (x .ke) ≡ 48
   pub ke-bytes : Bytes (x .ke)
   pub km-size : length (x .km) ≡ 48
@@ -62,12 +62,10 @@ keyMaskOf n k i = laneMask (keyAt (callOf n k)) (indexOf i)
 
 -- w is a tape of bytes, as long as that of the sealing S, that differs from it at most in the round's 32 mask bytes and in the lane's 16
 -- key mask bytes; with it the sealing T is accepted, and its report shows the lane that the report of S shows
-pub record SameLane (S T : AcceptedSealing) (k r i : ℕ) (w : List ℕ) : Type 0 where
-  pub as-long : length w ≡ length (S .tape)
-  pub all-bytes : Bytes w
-  pub elsewhere : Alike (keyMaskOf (blockCount (length (S .message))) k i) (masksOf k r) w (S .tape)
-  pub accepted : Accepted (T .link) (T .message) w (length (T .out))
-  pub same : shown (T .link) (T .message) w k r i ≡ shown (S .link) (S .message) (S .tape) k r i
+abbrev pub SameLane : AcceptedSealing → AcceptedSealing → ℕ → ℕ → ℕ → List ℕ → Type 0
+SameLane S T k r i =
+    Shows (keyMaskOf (blockCount (length (S .message))) k i) (masksOf k r) (S .tape) (shown (S .link) (S .message) (S .tape) k r i)
+    (λ w. Accepted (T .link) (T .message) w (length (T .out))) (λ w. shown (T .link) (T .message) w k r i)
 
 -- sealing m on x with the output o does the same with the tape u as with the tape t
 pub record SameSealing (x : Sender) (m o t u : List ℕ) : Type 0 where
@@ -75,7 +73,7 @@ pub record SameSealing (x : Sender) (m o t u : List ℕ) : Type 0 where
   pub link : sealLink x m u (length o) ≡ sealLink x m t (length o)
   pub tag-shares : sealShares x m u (length o) ≡ sealShares x m t (length o)
   pub output : sealOutput x m u o ≡ sealOutput x m t o
-  pub lanes : (k r i : ℕ) → 1 ≤ k → k ≤ callCount (blockCount (length m)) → 1 ≤ r → r ≤ rounds → i < 3
+  pub lanes : (k r i : ℕ) → 1 ≤ k → k ≤ callCount (blockCount (length m)) → 1 ≤ r → r ≤ pairCount → i < 3
       → shown x m u k r i ≡ shown x m t k r i
 
 -- the three lanes of round r of call k

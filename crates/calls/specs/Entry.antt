@@ -6,14 +6,15 @@ use Prim.Native.Nat.{ℕ, zero, suc, _+_}
 use lib.Dec.{eqb, ltb}
 use lib.ListN.{length, replicate}
 use Rattle.answers.specs.Answer.{Answer, done, Cause, _when_, first, ifDone, output}
-use Rattle.baksheesh.specs.Baksheesh.{rounds}
 use Rattle.modes.specs.Pieces.{blockCount}
-use Rattle.links.specs.Record.{greatest, longest, recordSize}
+use Rattle.links.specs.Record.{standard, greatest, longest, recordSize}
 use Rattle.links.specs.declared.Sender.{Sender}
-use Rattle.shares.specs.Shares.{Index, i₀, i₁, i₂, flat}
-use Rattle.shares.specs.Tape.{at}
-use Rattle.calls.specs.Calls.{callCount, tapeNeed}
-use Rattle.calls.specs.Sealed.{tagShares, sealedRecord, laneOf}
+use Rattle.masking.specs.Shares.{Index, i₀, i₁, i₂, flat}
+use Rattle.masking.specs.Tape.{at}
+use Rattle.masking.specs.Call.{encryption, pairCount}
+use Rattle.runs.specs.Run.{laneOf}
+use Rattle.calls.specs.Numbered.{callCount, tapeNeed}
+use Rattle.calls.specs.Sealed.{sealingCalls, tagShares, sealedRecord}
 
 -- ---- sealing the message m on the link x with the tape t, with room for o bytes
 
@@ -21,17 +22,17 @@ use Rattle.calls.specs.Sealed.{tagShares, sealedRecord, laneOf}
 abbrev pub inputCauses : Sender → List ℕ → List ℕ → List Cause → List Cause
 inputCauses x m t cs =
     (20 when not (x .keyed))
-    ∷ (21 when eqb (x .last) greatest)
+    ∷ (21 when eqb (x .last) (greatest standard))
     ∷ (2 when ltb longest (length m))
     ∷ (3 when ltb (length t) (tapeNeed (length m)))
     ∷ cs
 
 abbrev pub sealCauses : Sender → List ℕ → List ℕ → ℕ → List Cause
-sealCauses x m t o = inputCauses x m t ((4 when ltb o (recordSize (length m))) ∷ [])
+sealCauses x m t o = inputCauses x m t ((4 when ltb o (recordSize standard (length m))) ∷ [])
 
 -- the length of the record, and the tape bytes read
 unfoldable pub sealAnswer : Sender → List ℕ → List ℕ → ℕ → Answer
-sealAnswer x m t o = first (sealCauses x m t o) (done (recordSize (length m) ∷ tapeNeed (length m) ∷ []))
+sealAnswer x m t o = first (sealCauses x m t o) (done (recordSize standard (length m) ∷ tapeNeed (length m) ∷ []))
 
 -- the link with its next number used
 abbrev pub advanced : Sender → Sender
@@ -53,7 +54,7 @@ laneSize = 48
 
 -- a sealing of a message of n bytes has lane i of call k, round r: calls and rounds are numbered from 1, lanes from 0
 abbrev pub hasLane : ℕ → ℕ → ℕ → ℕ → Bool
-hasLane n k r i = not (eqb k 0) && not (ltb (callCount (blockCount n)) k) && not (eqb r 0) && not (ltb rounds r) && ltb i 3
+hasLane n k r i = not (eqb k 0) && not (ltb (callCount (blockCount n)) k) && not (eqb r 0) && not (ltb pairCount r) && ltb i 3
 
 abbrev pub reportCauses : Sender → List ℕ → List ℕ → ℕ → ℕ → ℕ → ℕ → List Cause
 reportCauses x m t k r i o =
@@ -71,4 +72,5 @@ indexOf (suc zero) = i₁
 indexOf (suc (suc n)) = i₂
 
 abbrev pub reportOutput : Sender → List ℕ → List ℕ → ℕ → ℕ → ℕ → List ℕ → List ℕ
-reportOutput x m t k r i o = output (reportAnswer x m t k r i (length o)) (laneOf x m (at t) k r (indexOf i)) o
+reportOutput x m t k r i o =
+    output (reportAnswer x m t k r i (length o)) (laneOf encryption (sealingCalls x m) (at t) k r (indexOf i)) o

@@ -1,4 +1,4 @@
-pub mod Calls
+pub mod Numbered
 pub mod Sealed
 pub mod Plain
 pub mod Entry

@@ -10,13 +10,13 @@ use Rattle.modes.specs.Pieces.{blockCount, piece}
 use Rattle.modes.specs.Cmac.{chain, lastBlock}
 use Rattle.links.specs.Record.{counterBlock}
 use Rattle.plain.specs.Plain.{crypted, authenticated}
-use Rattle.calls.specs.Calls.{Call, ctr, sub, mac, callOf, ofKey}
+use Rattle.calls.specs.Numbered.{Call, ctr, sub, mac, callOf, ofKey}
 
 -- sealing the message m under the keys ke and km, the link number n and the sequence number s
 module _ (ke km : List ℕ) (n s : ℕ) (m : List ℕ) where
   -- what CMAC is taken of
   abbrev text : List ℕ
-  text = authenticated n s (crypted ke n s m)
+  text = authenticated n s (crypted (encrypt ke) n s m)
 
   -- the input of each call
   unfoldable pub plainInput : Call → List ℕ

@@ -1,4 +1,4 @@
--- One sealing on shares: its calls, its record, its lanes. Assumes nothing.
+-- One sealing on shares: its run of calls, its record. Assumes nothing.
 use mathlib.Core.Bool.{cond}
 use mathlib.Core.List.{List, _++_}
 use Prim.Native.Nat.{ℕ, zero, suc, _+_, _-_, _%_}
@@ -8,12 +8,13 @@ use Rattle.blocks.specs.Bytes.{zeros}
 use Rattle.modes.specs.Pieces.{blockCount, piece}
 use Rattle.modes.specs.Ctr as Ctr
 use Rattle.modes.specs.Cmac.{doubled, padded}
-use Rattle.links.specs.Record.{counterBlock, recordOf}
+use Rattle.links.specs.Record.{standard, counterBlock, recordOf}
 use Rattle.links.specs.declared.Sender.{Sender}
-use Rattle.shares.specs.Shares.{Index, Shares, join, add, each, only, sharesIn}
-use Rattle.shares.specs.Tape.{Reader, masksAt}
-use Rattle.shares.specs.Call as Shared
-use Rattle.calls.specs.Calls.{Call, ctr, sub, mac, callNumber, callOf, ofKey, keyAt, callAt}
+use Rattle.masking.specs.Shares.{Shares, join, add, each, only, sharesIn}
+use Rattle.masking.specs.Tape.{Reader}
+use Rattle.masking.specs.Call.{encryption}
+use Rattle.runs.specs.Run.{Run, outputOf}
+use Rattle.calls.specs.Numbered.{Call, ctr, sub, mac, callNumber, callOf, callCount, ofKey, keyAt, callAt}
 
 -- the first w bytes of a block, zeros behind them
 abbrev pub cut : ℕ → List ℕ → List ℕ
@@ -31,62 +32,59 @@ lastKey n l = cond (eqb (n % 16) 0) (doubled l) (doubled (doubled l))
 abbrev pub textBlock : List ℕ → ℕ → Shares → Shares
 textBlock m j s = add (each (cut (length (piece j m))) s) (only (completed (piece j m)))
 
--- the sealing of the message m on the link x with what is read of a tape
-module _ (x : Sender) (m : List ℕ) (M : Reader) where
+-- the sealing of the message m on the link x
+module _ (x : Sender) (m : List ℕ) where
   abbrev pub count : ℕ
   count = blockCount (length m)
 
   abbrev pub counter : ℕ → List ℕ
   counter i = counterBlock (x .number) (x .last + 1) i
 
-  -- ---- calls
-
-  -- the shares of a call's key, masked
-  unfoldable pub keyShares : Call → Shares
-  keyShares c = add (sharesIn (ofKey (x .ke) (x .km) c)) (masksAt M (keyAt c))
-
-  -- what a call makes of input shares
-  unfoldable pub run : Call → Shares → Shares
-  run c input = Shared.call (keyShares c) input M (callAt (callNumber count c))
-
-  -- the output shares of CTR's call for block j: its input is the counter block, in share 0
-  unfoldable pub ctrOut : ℕ → Shares
-  ctrOut j = run (ctr j) (only (counter j))
-
-  -- the last block's subkey, made share by share
-  unfoldable pub subkey : Shares
-  subkey = each (lastKey (length m)) (run sub (λ i. zeros))
+  -- ---- what the calls take in, of the outputs f of earlier calls by their numbers
 
   -- block j of what is authenticated: counter block 0, then the ciphertext
-  unfoldable pub macBlock : ℕ → Shares
-  macBlock zero = only (counter 0)
-  macBlock (suc j) = textBlock m j (ctrOut j)
+  unfoldable pub macBlock : (ℕ → Shares) → ℕ → Shares
+  macBlock f zero = only (counter 0)
+  macBlock f (suc j) = textBlock m j (f (callNumber count (ctr j)))
 
-  -- the chain before block j, from three zero shares, and the input of CMAC's call for block j
-  unfoldable pub chain : ℕ → Shares
-  chain zero = λ i. zeros
-  chain (suc j) = run (mac j) (add (chain j) (macBlock j))
+  -- the chain before block j: three zero shares, then what CMAC's call for the block before made
+  unfoldable pub chain : (ℕ → Shares) → ℕ → Shares
+  chain f zero = λ i. zeros
+  chain f (suc j) = f (callNumber count (mac j))
 
-  abbrev pub macIn : ℕ → Shares
-  macIn j = add (chain j) (cond (eqb j count) (add subkey (macBlock j)) (macBlock j))
+  -- the last block's subkey, made share by share
+  unfoldable pub subkey : (ℕ → Shares) → Shares
+  subkey f = each (lastKey (length m)) (f (callNumber count sub))
 
-  unfoldable pub inputOf : Call → Shares
-  inputOf (ctr j) = only (counter j)
-  inputOf sub = λ i. zeros
-  inputOf (mac j) = macIn j
+  unfoldable pub inputFrom : Call → (ℕ → Shares) → Shares
+  inputFrom (ctr j) f = only (counter j)
+  inputFrom sub f = λ i. zeros
+  inputFrom (mac j) f = add (chain f j) (cond (eqb j count) (add (subkey f) (macBlock f j)) (macBlock f j))
 
-  -- ---- what is seen
+  -- ---- the calls
 
-  unfoldable pub tagShares : Shares
-  tagShares = run (mac count) (macIn count)
+  abbrev pub sealingCalls : Run
+  sealingCalls = record {
+    count = callCount count;
+    given = λ k. sharesIn (ofKey (x .ke) (x .km) (callOf count k));
+    keyAt = λ k. keyAt (callOf count k);
+    begins = callAt;
+    input = λ k. inputFrom (callOf count k);
+  }
 
-  -- CTR with the joined outputs for its output blocks
-  unfoldable pub ciphertext : List ℕ
-  ciphertext = Ctr.ctr (λ b. b) (λ j. join (ctrOut j)) m
+  -- ---- what they make, with what is read of a tape
 
-  unfoldable pub sealedRecord : List ℕ
-  sealedRecord = recordOf (x .number) (x .last + 1) ciphertext (join tagShares)
+  module _ (M : Reader) where
+    -- the output shares of CTR's call for block j, and of the last call
+    abbrev pub ctrOut : ℕ → Shares
+    ctrOut j = outputOf encryption sealingCalls M (callNumber count (ctr j))
 
-  -- lane i of call k, round r, as document 01 counts them: calls and rounds from 1
-  unfoldable pub laneOf : ℕ → ℕ → Index → List ℕ
-  laneOf k r i = let c = callOf count k in Shared.lane (keyShares c) (inputOf c) M (callAt k) (r - 1) i
+    abbrev pub tagShares : Shares
+    tagShares = outputOf encryption sealingCalls M (callCount count)
+
+    -- CTR with the joined outputs for its output blocks
+    unfoldable pub ciphertext : List ℕ
+    ciphertext = Ctr.ctr (λ b. b) (λ j. join (ctrOut j)) m
+
+    unfoldable pub sealedRecord : List ℕ
+    sealedRecord = recordOf standard (x .number) (x .last + 1) ciphertext (take (standard .tag) (join tagShares))

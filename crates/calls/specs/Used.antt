@@ -1,34 +1,47 @@
 -- The words of the statement that the numbered calls are the ones that sealing uses, on shares and plainly. Assumes nothing.
 use mathlib.Core.Path.{_≡_}
 use mathlib.Core.List.{List}
-use Prim.Native.Nat.{ℕ, suc, _<_}
-use lib.ListN.{length}
+use Prim.Native.Nat.{ℕ, suc, _+_, _≤_, _<_}
+use lib.ListN.{length, take}
 use Rattle.blocks.specs.Bytes.{_⊕_, zeros}
 use Rattle.baksheesh.specs.Baksheesh.{encrypt}
 use Rattle.modes.specs.Pieces.{blockCount, piece}
+use Rattle.modes.specs.Ctr as Ctr
 use Rattle.modes.specs.Cmac.{doubled, subkey₁}
 use Rattle.modes.specs.Cmac as Cmac
+use Rattle.links.specs.Record.{standard, recordOf}
 use Rattle.links.specs.declared.Sender.{Sender}
-use Rattle.plain.specs.Plain.{crypted, authenticated, tagOf}
-use Rattle.shares.specs.Shares.{each}
-use Rattle.shares.specs.Tape.{Reader}
-use Rattle.calls.specs.Calls.{ctr, sub, mac}
-use Rattle.calls.specs.Sealed.{lastKey, run, ctrOut, subkey, chain, inputOf, tagShares}
+use Rattle.plain.specs.Plain.{crypted, authenticated, macOf}
+use Rattle.masking.specs.Shares.{Shares, join}
+use Rattle.masking.specs.Tape.{Reader}
+use Rattle.masking.specs.Stages.{call}
+use Rattle.masking.specs.Call.{encryption}
+use Rattle.runs.specs.Run.{keyShares, inputOf, outputOf}
+use Rattle.calls.specs.Numbered.{ctr, sub, mac, callNumber, callOf, callCount, callAt}
+use Rattle.calls.specs.Sealed.{sealingCalls, inputFrom, sealedRecord}
 use Rattle.calls.specs.Plain.{plainInput}
 
--- of the sealing of m on x with what is read of a tape: its CTR outputs, last subkey, chain and tag shares are the outputs of the calls
--- on their inputs
+-- f has the outputs of the calls before call k
+abbrev pub Before : Sender → List ℕ → Reader → ℕ → (ℕ → Shares) → Type 0
+Before x m M k f = (j : ℕ) → 1 ≤ j → j < k → f j ≡ outputOf encryption (sealingCalls x m) M j
+
+-- of the sealing of m on x with what is read of a tape: each call makes its output of the key shares and the input that its lanes are of,
+-- each input is made of the outputs before it, and the record is made of the outputs of CTR's calls and of the last call
 pub record CallsUsed (x : Sender) (m : List ℕ) (M : Reader) : Type 0 where
-  pub outputs : (j : ℕ) → ctrOut x m M j ≡ run x m M (ctr j) (inputOf x m M (ctr j))
-  pub last-subkey : subkey x m M ≡ each (lastKey (length m)) (run x m M sub (inputOf x m M sub))
-  pub chained : (j : ℕ) → j < blockCount (length m) → chain x m M (suc j) ≡ run x m M (mac j) (inputOf x m M (mac j))
-  pub tag : tagShares x m M ≡ run x m M (mac (blockCount (length m))) (inputOf x m M (mac (blockCount (length m))))
+  pub outputs : (k : ℕ) → let R = sealingCalls x m in
+      outputOf encryption R M k ≡ call encryption (keyShares encryption R M k) (inputOf encryption R M k) M (callAt k)
+  pub inputs : (k : ℕ) → (f : ℕ → Shares) × Before x m M k f
+      × (inputOf encryption (sealingCalls x m) M k ≡ inputFrom x m (callOf (blockCount (length m)) k) f)
+  pub recorded : let n = blockCount (length m) in let out = outputOf encryption (sealingCalls x m) M in
+      sealedRecord x m M ≡ recordOf standard (x .number) (x .last + 1)
+      (Ctr.ctr (λ b. b) (λ j. join (out (callNumber n (ctr j)))) m) (take (standard .tag) (join (out (callCount n))))
 
 -- of plain sealing of m under the keys ke and km, with the link number n and the sequence number s: its ciphertext blocks, subkeys, chain
--- and tag are made of the calls' outputs
+-- and code are made of the calls' outputs
 pub record PlainCallsUsed (ke km : List ℕ) (n s : ℕ) (m : List ℕ) : Type 0 where
-  pub outputs : (j : ℕ) → j < blockCount (length m) → piece j (crypted ke n s m) ≡ piece j m ⊕ encrypt ke (plainInput ke km n s m (ctr j))
+  pub outputs : (j : ℕ) → j < blockCount (length m)
+      → piece j (crypted (encrypt ke) n s m) ≡ piece j m ⊕ encrypt ke (plainInput ke km n s m (ctr j))
   pub first-subkey : subkey₁ (encrypt km) ≡ doubled (encrypt km (plainInput ke km n s m sub))
   pub chained : (j : ℕ) → j < blockCount (length m)
-      → Cmac.chain (encrypt km) zeros (authenticated n s (crypted ke n s m)) (suc j) ≡ encrypt km (plainInput ke km n s m (mac j))
-  pub tag : tagOf km n s (crypted ke n s m) ≡ encrypt km (plainInput ke km n s m (mac (blockCount (length m))))
+      → Cmac.chain (encrypt km) zeros (authenticated n s (crypted (encrypt ke) n s m)) (suc j) ≡ encrypt km (plainInput ke km n s m (mac j))
+  pub code : macOf (encrypt km) n s (crypted (encrypt ke) n s m) ≡ encrypt km (plainInput ke km n s m (mac (blockCount (length m))))

@@ -26,7 +26,8 @@ are-long k x o {t} e h =
     let two = both-true (eqb k 16) (eqb x 16) (all .0) in
     record { key = eqb-true k 16 (two .0); input = eqb-true x 16 (two .1); output = eqb-true o 16 (all .1) }
 
-module _ (f : List ℕ → List ℕ → List ℕ) (k x o : List ℕ) {t : Bool} (tested : t ≡ (eqb (length k) 16 && eqb (length x) 16 && eqb (length o) 16)) where
+module _ (f : List ℕ → List ℕ → List ℕ) (k x o : List ℕ) {t : Bool}
+    (tested : t ≡ (eqb (length k) 16 && eqb (length x) 16 && eqb (length o) 16)) where
   answered : {b : Bool} → not t ≡ b → blockAnswer k x o ≡ cond b (refused 5) (done [])
   unfolding blockAnswer
   answered h = ap (λ (z : Bool). cond (not z) (refused 5) (done [])) (sym tested) ∙ ap (λ (z : Bool). cond z (refused 5) (done [])) h

@@ -1,6 +1,7 @@
 // Every entry, called on any slices, numbers and links. No function here has a `requires`, so an entry with one that some
 // argument breaks is refused here.
 use engines::BlockAnswer;
+use engines::Cipher;
 use links::Sender;
 use links::SenderKeying;
 use opening::Opening;
@@ -12,20 +13,8 @@ use sealing::Sealing;
 
 // ---- block calls
 
-pub fn encrypt_table(key: &[u8], input: &[u8], output: &mut [u8]) -> BlockAnswer {
-    engines::encrypt_table(key, input, output)
-}
-
-pub fn encrypt_packed(key: &[u8], input: &[u8], output: &mut [u8]) -> BlockAnswer {
-    engines::encrypt_packed(key, input, output)
-}
-
-pub fn decrypt_table(key: &[u8], input: &[u8], output: &mut [u8]) -> BlockAnswer {
-    engines::decrypt_table(key, input, output)
-}
-
-pub fn decrypt_packed(key: &[u8], input: &[u8], output: &mut [u8]) -> BlockAnswer {
-    engines::decrypt_packed(key, input, output)
+pub fn call(which: Cipher, key: &[u8], input: &[u8], output: &mut [u8]) -> BlockAnswer {
+    engines::call(which, key, input, output)
 }
 
 // ---- links
@@ -102,11 +91,11 @@ pub fn c_decrypt_packed(key: &[u8], input: &[u8], output: &mut [u8]) -> u32 {
 }
 
 pub fn c_key_sender(link: &mut [u8], number: u32, keys: &[u8]) -> u32 {
-    rasppuce::sending::rasppuce_key_sender(link, number, keys)
+    rasppuce::rasppuce_key_sender(link, number, keys)
 }
 
 pub fn c_key_receiver(link: &mut [u8], number: u32, keys: &[u8]) -> u32 {
-    rasppuce::receiving::rasppuce_key_receiver(link, number, keys)
+    rasppuce::rasppuce_key_receiver(link, number, keys)
 }
 
 pub fn c_seal(
@@ -116,7 +105,7 @@ pub fn c_seal(
     out: &mut [u8],
     shares: &mut [u8],
 ) -> u32 {
-    rasppuce::sending::rasppuce_seal(link, message, tape, out, shares)
+    rasppuce::rasppuce_seal(link, message, tape, out, shares)
 }
 
 pub fn c_report(
@@ -128,7 +117,7 @@ pub fn c_report(
     lane: u32,
     out: &mut [u8],
 ) -> u32 {
-    rasppuce::sending::rasppuce_report(link, message, tape, call, round, lane, out)
+    rasppuce::rasppuce_report(link, message, tape, call, round, lane, out)
 }
 
 pub fn c_seal_plain(
@@ -138,9 +127,9 @@ pub fn c_seal_plain(
     message: &[u8],
     out: &mut [u8],
 ) -> u32 {
-    rasppuce::sending::rasppuce_seal_plain(keys, number, sequence, message, out)
+    rasppuce::rasppuce_seal_plain(keys, number, sequence, message, out)
 }
 
 pub fn c_open(link: &mut [u8], sealed: &[u8], out: &mut [u8]) -> u32 {
-    rasppuce::receiving::rasppuce_open(link, sealed, out)
+    rasppuce::rasppuce_open(link, sealed, out)
 }

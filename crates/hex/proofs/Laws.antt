@@ -47,7 +47,8 @@ module _ {s o out : List ℕ} {i : ℕ} (w : Written s o i out) where
   pub kept : 2 * length s ≤ length o → length out ≡ length o
   kept fits = ap length (w .text) ∙ put-length 0 (hexOf (take i s)) o (omega (arith, long))
 
-  pub more : {out′ : List ℕ} → i < length s → 2 * length s ≤ length o → out′ ≡ put (2 * i) (hexOf (getD s i 0 ∷ [])) out → Written s o (i + 1) out′
+  pub more : {out′ : List ℕ} → i < length s → 2 * length s ≤ length o → out′ ≡ put (2 * i) (hexOf (getD s i 0 ∷ [])) out
+      → Written s o (i + 1) out′
   more {out′} h fits e =
       record {
         within = omega arith;

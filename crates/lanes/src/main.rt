@@ -1,49 +1,18 @@
 // Shared sealing and the lane report: records, tag shares, lanes and refusals.
 use links::Sender;
-use sealing::ReportAnswer;
 use sealing::SealAnswer;
-ghost use mathlib.Core.Path.{_≡_};
-ghost use Rattle.answers.specs.Answer.{numberOf};
-ghost use Rattle.sealing.specs.Says.{sealSays, reportSays};
-
-fn seal_number(a: SealAnswer) -> u64
-    ensures { λ r. ⌜ r ≡ numberOf (sealSays a) ⌝ }
-{
-    match a {
-        SealAnswer::Sealed { len: _, used: _ } => 0,
-        SealAnswer::NotKeyed => 20,
-        SealAnswer::NumbersUsed => 21,
-        SealAnswer::LongMessage => 2,
-        SealAnswer::ShortTape => 3,
-        SealAnswer::ShortOutput => 4,
-    }
-}
-
-fn report_number(a: ReportAnswer) -> u64
-    ensures { λ r. ⌜ r ≡ numberOf (reportSays a) ⌝ }
-{
-    match a {
-        ReportAnswer::Shown => 0,
-        ReportAnswer::NotKeyed => 20,
-        ReportAnswer::NumbersUsed => 21,
-        ReportAnswer::LongMessage => 2,
-        ReportAnswer::ShortTape => 3,
-        ReportAnswer::BadLane => 6,
-        ReportAnswer::ShortOutput => 4,
-    }
-}
 
 // Prints the number that sealing gives.
 fn try_seal(what: &[u8], link: Sender, message: &[u8], tape: &[u8], out: &mut [u8]) {
     let sealed = sealing::seal(link, message, tape, out);
     let answer = sealed.answer;
-    show::tried(what, seal_number(answer));
+    show::tried(what, answer.number() as u64);
 }
 
 // Prints the number that the report of lane 0 of round 1 of a call gives.
 fn try_report(what: &[u8], link: Sender, message: &[u8], tape: &[u8], call: u32, out: &mut [u8]) {
     let answer = sealing::report(link, message, tape, call, 1, 0, out);
-    show::tried(what, report_number(answer));
+    show::tried(what, answer.number() as u64);
 }
 
 // Prints the record of a message, its tag's shares and how much of the tape was read.

@@ -1,16 +1,18 @@
--- What keying answers. Assumes nothing.
+-- What keying answers, by the place of its first cause. Assumes nothing.
 use mathlib.Core.Path.{_≡_}
 use mathlib.Core.List.{List, []}
 use Prim.Native.Nat.{ℕ}
-use lib.ListN.{length}
-use borrow.Author.Tests.{eq-eqb, ne-eqb}
-use Rattle.answers.specs.Answer.{done, refused}
-use Rattle.links.specs.Links.{keyAnswer}
+use lib.ListN.{take}
+use Rattle.answers.specs.Answer.{done, refused, NoneOf}
+use Rattle.answers.proofs.First.{Applies, numberAt, refused-at, done-none}
+use Rattle.links.specs.Links.{keyCauses, keyAnswer}
 
-pub bad-keys : (n : ℕ) (keys : List ℕ) → (length keys ≡ n → ⊥) → keyAnswer n keys ≡ refused 1
-unfolding keyAnswer
-bad-keys n keys h = simp (ne-eqb _ _ h)
+module _ (n : ℕ) (keys : List ℕ) where
+  pub key-refused : (k : ℕ) → NoneOf (take k (keyCauses n keys)) → Applies k (keyCauses n keys)
+      → keyAnswer n keys ≡ refused (numberAt k (keyCauses n keys))
+  unfolding keyAnswer
+  key-refused k = refused-at k (keyCauses n keys) _
 
-pub good-keys : (n : ℕ) (keys : List ℕ) → length keys ≡ n → keyAnswer n keys ≡ done []
-unfolding keyAnswer
-good-keys n keys h = simp (eq-eqb _ _ h)
+  pub key-done : NoneOf (keyCauses n keys) → keyAnswer n keys ≡ done []
+  unfolding keyAnswer
+  key-done = done-none (keyCauses n keys) _

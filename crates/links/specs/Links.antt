@@ -5,7 +5,7 @@ use Prim.Native.Nat.{ℕ}
 use lib.Dec.{eqb}
 use lib.ListN.{length, replicate}
 use Rattle.blocks.specs.Put.{part}
-use Rattle.answers.specs.Answer.{Answer, done, refused, _when_, first}
+use Rattle.answers.specs.Answer.{Answer, done, refused, Cause, _when_, first}
 use Rattle.links.specs.declared.Sender.{Sender}
 use Rattle.links.specs.declared.KeyAnswer.{KeyAnswer}
 use Rattle.links.specs.declared.KeyAnswer.the-variants.{Keyed, BadKeys}
@@ -19,8 +19,11 @@ keySays Keyed = done []
 keySays BadKeys = refused 1
 
 -- keying with the given bytes a link that takes n of them
+abbrev pub keyCauses : ℕ → List ℕ → List Cause
+keyCauses n keys = (1 when not (eqb (length keys) n)) ∷ []
+
 unfoldable pub keyAnswer : ℕ → List ℕ → Answer
-keyAnswer n keys = first ((1 when not (eqb (length keys) n)) ∷ []) (done [])
+keyAnswer n keys = first (keyCauses n keys) (done [])
 
 -- a fresh link is all zeros and not keyed
 abbrev pub freshSender : Sender

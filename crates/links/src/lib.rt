@@ -1,8 +1,60 @@
-// The sending link: what a sender holds between two calls, and its keying; counter blocks.
+// The form of a record; the sending link: what a sender holds between two calls, and its keying; counter blocks, heads.
 ghost use mathlib.Core.Path.{_≡_};
-ghost use Rattle.answers.specs.Answer.{ifDone};
+ghost use Prim.Native.Nat.{_≤_};
+ghost use lib.ListN.{length};
+ghost use Rattle.blocks.specs.Put.{put};
+ghost use Rattle.answers.specs.Answer.{numberOf, ifDone};
 ghost use Rattle.links.specs.Links.{senderKeys, keySays, keyAnswer, freshSender, senderOf};
-ghost use Rattle.links.specs.Record.{counterBlock};
+ghost use Rattle.links.specs.Record.{standard, Proper, headSize, added, counterBlock, headOf};
+
+// ---- sizes, in bytes
+
+// A link number; the number of a counter block.
+pub const NUMBER: usize = 4;
+
+pub const INDEX: usize = 4;
+
+// The sequence number in a counter block.
+pub const SEQUENCE_MOST: usize = 8;
+
+// The longest message.
+pub const LONGEST: usize = 256;
+
+// The form of a record: the bytes of its sequence number and of its tag.
+pub struct Form {
+    pub sequence: usize,
+    pub tag: usize,
+}
+
+impl Form {
+    // The form of every link.
+    pub fn standard() -> Form
+        ensures { λ r. ⌜ r ≡ standard ⌝ }
+    {
+        Form {
+            sequence: 4,
+            tag: 16,
+        }
+    }
+
+    // The bytes before the ciphertext.
+    pub fn head(self) -> usize
+        requires { ⌜ Proper self ⌝ }
+        ensures { λ r. ⌜ r ≡ headSize self ⌝ }
+    {
+        NUMBER + self.sequence
+    }
+
+    // The bytes that a record adds to its message.
+    pub fn added(self) -> usize
+        requires { ⌜ Proper self ⌝ }
+        ensures { λ r. ⌜ r ≡ added self ⌝ }
+    {
+        NUMBER + self.sequence + self.tag
+    }
+}
+
+// ---- the sending link
 
 // The link's number, the last sequence number used, and the keys KE and KM as three shares each.
 pub struct Sender {
@@ -16,6 +68,18 @@ pub struct Sender {
 pub enum KeyAnswer {
     Keyed,
     BadKeys,
+}
+
+impl KeyAnswer {
+    // 0, or the refusal's number.
+    pub fn number(self) -> u32
+        ensures { λ r. ⌜ r ≡ numberOf (keySays self) ⌝ }
+    {
+        match self {
+            KeyAnswer::Keyed => 0,
+            KeyAnswer::BadKeys => 1,
+        }
+    }
 }
 
 pub struct SenderKeying {
@@ -63,13 +127,25 @@ impl Sender {
     }
 }
 
+// ---- counter blocks and records' heads
+
 // Counter block i of a sealing.
-pub fn counter_block(number: u32, sequence: u32, i: u32) -> [u8; 16]
+pub fn counter_block(number: u32, sequence: u64, i: u32) -> [u8; 16]
     ensures { λ r. ⌜ r ≡ counterBlock number sequence i ⌝ }
 {
     let mut block = [0u8; 16];
-    blocks::put_number(&mut block, 0, number);
-    blocks::put_number(&mut block, 8, sequence);
-    blocks::put_number(&mut block, 12, i);
+    blocks::put_number(&mut block, 0, NUMBER, number as u64);
+    blocks::put_number(&mut block, NUMBER, SEQUENCE_MOST, sequence);
+    blocks::put_number(&mut block, NUMBER + SEQUENCE_MOST, INDEX, i as u64);
     block
+}
+
+// Writes the head of a record.
+pub fn put_head(form: Form, number: u32, sequence: u64, out: &mut [u8])
+    requires { ⌜ Proper form × (headSize form ≤ length (now out)) ⌝ }
+    ensures { λ _. ⌜ now (out .exit) ≡ put 0 (headOf form number sequence) (now (out .entry)) ⌝ }
+{
+    blocks::put_number(out, 0, NUMBER, number as u64);
+    let width = form.sequence;
+    blocks::put_number(out, NUMBER, width, sequence);
 }

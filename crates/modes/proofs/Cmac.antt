@@ -7,7 +7,7 @@ use native.Mathlib.Decide.{decLt}
 use native.Mathlib.Omega.{arith}
 use lib.ListN.{length, replicate, length-append, length-replicate}
 use borrow.Author.Tests.{eq-eqb, ne-eqb}
-use Rattle.blocks.specs.Bytes.{Bytes, Block, _⊕_, zeros}
+use Rattle.blocks.specs.Bytes.{Bytes, Block, MakesBlocks, _⊕_, zeros}
 use Rattle.blocks.proofs.Xor.{⊕-block, zeros-block, bytes-append, bytes-cons, bytes-replicate}
 use Rattle.modes.specs.Pieces.{blockCount, piece}
 use Rattle.modes.specs.Cmac.{padded, macCount, subkey₁, subkey₂, lastBlock, chain, cmac}
@@ -17,7 +17,8 @@ use Rattle.modes.proofs.Doubled.{doubled-block}
 pub padded-block : (p : List ℕ) → Bytes p → length p < 16 → Block (padded p)
 padded-block p b h = record {
   size = simp (length-append, length-replicate) (omega arith);
-  bytes = bytes-append p (0x80 ∷ replicate (15 - length p) 0) b (bytes-cons 0x80 (replicate (15 - length p) 0) (omega arith) (bytes-replicate (15 - length p)));
+  bytes = bytes-append p (0x80 ∷ replicate (15 - length p) 0) b
+      (bytes-cons 0x80 (replicate (15 - length p) 0) (omega arith) (bytes-replicate (15 - length p)));
 }
 
 module _ (E : List ℕ → List ℕ) where
@@ -84,7 +85,7 @@ module _ (E : List ℕ → List ℕ) where
         rw (last-whole p e) (⊕-block subkey₁-block (record { size = e; bytes = b }))
   ]
 
-  module _ (keeps : (x : List ℕ) → Block x → Block (E x)) where
+  module _ (keeps : MakesBlocks E) where
     pub chain-block : (x m : List ℕ) → Block x → Bytes m → (n : ℕ) → 16 * n ≤ length m → Block (chain E x m n)
     unfolding chain
     chain-block x m w b zero h = w

@@ -10,17 +10,21 @@ use lib.Dec.{eqb, eqb·suc-zero}
 use lib.ListN.{getD, replicate, List·getD-eq-default}
 use lib.Bits.{bitXor, xor-zero-r, xor-lt}
 use Rattle.bits.specs.Bit.{bit, odd, _⊻_}
-use Rattle.bits.proofs.Laws.{bit-zero, number-bits, number-same}
+use Rattle.bits.proofs.Laws.{bit-zero}
 use Rattle.bits.proofs.Test.{agree, four-bits}
-use Rattle.bits.proofs.Linear.{input, xored, shl, shr, moved}
+use Rattle.bits.proofs.XorOfBits.{input, xored, shl, shr, moved}
 use Rattle.blocks.specs.Bytes.{Block, _⊕_}
 use Rattle.blocks.specs.Bits.{bitAt, blockOf}
 use Rattle.blocks.proofs.Xor.{⊕-comm, getD-⊕, bytes-append, bytes-cons, bytes-nil, bytes-replicate}
-use Rattle.blocks.proofs.ByBits.{isBlock, bit-blockOf, blockOf-same, blockOf-bits, blockOf-⊕, bit-⊕}
+use Rattle.blocks.proofs.ByBits.{isBlock, blockOf-same, blockOf-bits, blockOf-⊕, bit-⊕}
+use Rattle.blocks.proofs.ByBytes.{bit-byte, byte-same}
 use Rattle.modes.specs.Cmac.{shifted, R, doubled}
 
 R-block : Block R
-R-block = record { size = refl; bytes = bytes-append (replicate 15 0) (0x87 ∷ []) (bytes-replicate 15) (bytes-cons 0x87 [] (omega arith) bytes-nil) }
+R-block = record {
+  size = refl;
+  bytes = bytes-append (replicate 15 0) (0x87 ∷ []) (bytes-replicate 15) (bytes-cons 0x87 [] (omega arith) bytes-nil);
+}
 
 -- ---- by bits
 
@@ -67,13 +71,6 @@ doubled-⊕ {a} {b} p q =
 
 -- ---- byte by byte
 
-bit-byte : (b : List ℕ) (k i : ℕ) → k < 16 → i < 8 → bitAt b (8 * (15 - k) + i) ≡ bit (getD b k 0) i
-unfolding bitAt
-bit-byte b k i h l =
-    let e : 15 - (8 * (15 - k) + i) / 8 ≡ k = omega arith in
-    let m : (8 * (15 - k) + i) % 8 ≡ i = omega arith in
-    ap₂ (λ (x y : ℕ). bit (getD b x 0) y) e m
-
 -- a byte shifted left, with the highest bit of the next: which of the two each bit is from, and its place there
 abbrev from : ℕ → ℕ
 from zero = 1
@@ -83,18 +80,11 @@ abbrev place : ℕ → ℕ
 place zero = 7
 place (suc i) = i
 
-shift-in : (x y : ℕ) → x < 256 → y < 256 → (i : ℕ) → i < 8 → bit (bitXor (x * 2 % 256) (y / 128)) i ≡ bit (getD (x ∷ y ∷ []) (from i) 0) (place i)
+shift-in : (x y : ℕ) → x < 256 → y < 256 → (i : ℕ) → i < 8
+    → bit (bitXor (x * 2 % 256) (y / 128)) i ≡ bit (getD (x ∷ y ∷ []) (from i) 0) (place i)
 shift-in x y h l =
     let ws : List ℕ = x ∷ y ∷ [] in
     moved (xored (shl (input 8 ws 0 (omega arith) h) 1) (shr (input 8 ws 1 (omega arith) l) 7)) from place tt
-
--- a byte by its bits
-byte-same : (f : ℕ → Bool) (k x : ℕ) → k < 16 → x < 256 → ((i : ℕ) → i < 8 → bit x i ≡ f (8 * (15 - k) + i)) → x ≡ getD (blockOf f) k 0
-byte-same f k x h l e =
-    sym (number-bits 8 x l)
-    ∙ number-same 8 (bit x) (bit (getD (blockOf f) k 0))
-    (λ i d. e i d ∙ sym (bit-blockOf f (8 * (15 - k) + i) (omega arith)) ∙ bit-byte (blockOf f) k i h d)
-    ∙ number-bits 8 (getD (blockOf f) k 0) (isBlock f .bytes k)
 
 module _ {b : List ℕ} (w : Block b) where
   shifted-byte : (k : ℕ) → k < 16 → bitXor (getD b k 0 * 2 % 256) (getD b (suc k) 0 / 128) ≡ getD (shifted b) k 0

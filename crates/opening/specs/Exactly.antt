@@ -1,4 +1,5 @@
--- The words of the statement that opening accepts exactly the records that sealing makes. Assumes nothing.
+-- The words of the statement that opening accepts exactly the records that sealing makes: of any form, under any cipher C.
+-- Assumes nothing.
 use mathlib.Core.Path.{_≡_}
 use mathlib.Core.List.{List, [], _∷_}
 use Prim.Native.Nat.{ℕ, _^_, _≤_, _<_}
@@ -6,7 +7,8 @@ use lib.ListN.{length}
 use Rattle.blocks.specs.Bytes.{Bytes, Block}
 use Rattle.blocks.specs.Put.{put}
 use Rattle.answers.specs.Answer.{done}
-use Rattle.links.specs.Record.{sequenceSize, numberSize, longest}
+use Rattle.links.specs.Record.{numberSize, longest}
+use Rattle.links.specs.declared.Form.{Form}
 use Rattle.plain.specs.Plain.{plainRecord}
 use Rattle.opening.specs.declared.Receiver.{Receiver}
 use Rattle.opening.specs.Open.{openAnswer, openLink, openOutput}
@@ -17,17 +19,18 @@ pub record Formed (x : Receiver) : Type 0 where
   pub ke : Block (x .ke)
   pub km : Block (x .km)
 
--- what an accepted opening of the record r on the link x, with the output o, returns and leaves: the length of the message m, that
--- message in the output, and the link y
-pub record Opens (x : Receiver) (r o m : List ℕ) (y : Receiver) : Type 0 where
-  pub answer : openAnswer x r (length o) ≡ done (length m ∷ [])
-  pub link : openLink x r (length o) ≡ y
-  pub out : openOutput x r o ≡ put 0 m o
+module _ (f : Form) (C : List ℕ → List ℕ → List ℕ) where
+  -- what an accepted opening of the record r on the link x, with the output o, returns and leaves: the length of the message m, that
+  -- message in the output, and the link y
+  pub record Opens (x : Receiver) (r o m : List ℕ) (y : Receiver) : Type 0 where
+    pub answer : openAnswer f C x r (length o) ≡ done (length m ∷ [])
+    pub link : openLink f C x r (length o) ≡ y
+    pub out : openOutput f C x r o ≡ put 0 m o
 
--- r is the record that sealing makes of the message m for the link x with the number s, above the last accepted
-pub record Sealed (x : Receiver) (r m : List ℕ) (s : ℕ) : Type 0 where
-  pub size : length m ≤ longest
-  pub bytes : Bytes m
-  pub above : x .last < s
-  pub fits : s < 256 ^ sequenceSize
-  pub made : r ≡ plainRecord (x .ke) (x .km) (x .number) s m
+  -- r is the record that sealing makes of the message m for the link x with the number s, above the last accepted
+  pub record Sealed (x : Receiver) (r m : List ℕ) (s : ℕ) : Type 0 where
+    pub size : length m ≤ longest
+    pub bytes : Bytes m
+    pub above : x .last < s
+    pub fits : s < 256 ^ f .sequence
+    pub made : r ≡ plainRecord f (C (x .ke)) (C (x .km)) (x .number) s m

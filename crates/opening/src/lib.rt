@@ -1,9 +1,16 @@
 // The receiving link: what a receiver holds between two calls, its keying, and opening.
+use links::Form;
 use links::KeyAnswer;
 ghost use mathlib.Core.Path.{_≡_};
-ghost use Rattle.answers.specs.Answer.{ifDone};
-ghost use Rattle.links.specs.Links.{keySays, keyAnswer};
+ghost use Prim.Native.Nat.{_≤_};
 ghost use lib.ListN.{length};
+ghost use Rattle.blocks.specs.Bytes.{sameBytes};
+ghost use Rattle.blocks.specs.Put.{put};
+ghost use Rattle.answers.specs.Answer.{numberOf, ifDone};
+ghost use Rattle.baksheesh.specs.Baksheesh.{encrypt};
+ghost use Rattle.links.specs.Links.{keySays, keyAnswer};
+ghost use Rattle.links.specs.Record.{standard, Proper, sequenceIn, tagIn};
+ghost use Rattle.opening.specs.Open.{RecordSized, messageSize, rightTag, messageIn};
 ghost use Rattle.opening.specs.Open.{openSays, openAnswer, openLink, openOutput};
 ghost use Rattle.opening.specs.Receivers.{receiverKeys, freshReceiver, receiverOf};
 
@@ -32,9 +39,99 @@ pub enum OpenAnswer {
     WrongTag,
 }
 
+impl OpenAnswer {
+    // 0, or the refusal's number.
+    pub fn number(self) -> u32
+        ensures { λ r. ⌜ r ≡ numberOf (openSays self) ⌝ }
+    {
+        match self {
+            OpenAnswer::Opened { len: _ } => 0,
+            OpenAnswer::NotKeyed => 20,
+            OpenAnswer::BadLength => 7,
+            OpenAnswer::OtherLink => 8,
+            OpenAnswer::ShortOutput => 4,
+            OpenAnswer::OldNumber => 22,
+            OpenAnswer::WrongTag => 9,
+        }
+    }
+}
+
 pub struct Opening {
     pub answer: OpenAnswer,
     pub link: Receiver,
+}
+
+fn refused(link: Receiver, answer: OpenAnswer) -> Opening
+    ensures { λ r. ⌜ (r .answer ≡ answer) × (r .link ≡ link) ⌝ }
+{
+    Opening { answer, link }
+}
+
+// Whether a record has its tag.
+fn has_tag(form: Form, link: Receiver, sealed: &[u8], sequence: u64) -> bool
+    requires { ⌜ Proper form × RecordSized form (now sealed) × (sequence ≡ sequenceIn form (now sealed)) ⌝ }
+    ensures { λ r. ⌜ r ≡ sameBytes (rightTag form encrypt link (now (sealed .entry))) (tagIn form (now (sealed .entry))) ⌝ }
+{
+    let head = form.head();
+    let end = sealed.len() - form.tag;
+    let km = link.km;
+    let code = ctrmac::mac(km, link.number, sequence, &sealed[head..end]);
+    blocks::same_at(code, form.tag, sealed, end)
+}
+
+// Writes the message of a record.
+fn put_message(form: Form, link: Receiver, sealed: &[u8], sequence: u64, out: &mut [u8])
+    requires { ⌜ Proper form × RecordSized form (now sealed) × (sequence ≡ sequenceIn form (now sealed)) ⌝ }
+    requires { ⌜ messageSize form (now sealed) ≤ length (now out) ⌝ }
+    ensures { λ _. ⌜ now (out .exit) ≡ put 0 (messageIn form encrypt link (now (sealed .entry))) (now (out .entry)) ⌝ }
+{
+    let head = form.head();
+    let end = sealed.len() - form.tag;
+    let ke = link.ke;
+    ctrmac::crypt(ke, link.number, sequence, &sealed[head..end], out, 0);
+}
+
+// Opens a record of the given form, and hands the link back: with the record's number where it was accepted.
+fn open_in(form: Form, link: Receiver, sealed: &[u8], out: &mut [u8]) -> Opening
+    requires { ⌜ Proper form × (form .sequence ≤ standard .sequence) ⌝ }
+    ensures { λ r. ⌜ openSays (r .answer) ≡ openAnswer form encrypt link (now (sealed .entry)) (length (now (out .entry))) ⌝ }
+    ensures { λ r. ⌜ r .link ≡ openLink form encrypt link (now (sealed .entry)) (length (now (out .entry))) ⌝ }
+    ensures { λ r. ⌜ now (out .exit) ≡ openOutput form encrypt link (now (sealed .entry)) (now (out .entry)) ⌝ }
+{
+    if !link.keyed {
+        return refused(link, OpenAnswer::NotKeyed);
+    }
+    let n = sealed.len();
+    let added = form.added();
+    if n < added {
+        return refused(link, OpenAnswer::BadLength);
+    }
+    let len = n - added;
+    if links::LONGEST < len {
+        return refused(link, OpenAnswer::BadLength);
+    }
+    let number = blocks::word_at(sealed, 0);
+    if number != link.number {
+        return refused(link, OpenAnswer::OtherLink);
+    }
+    if out.len() < len {
+        return refused(link, OpenAnswer::ShortOutput);
+    }
+    let sequence = blocks::number_at(sealed, links::NUMBER, form.sequence);
+    let last = link.last as u64;
+    if sequence <= last {
+        return refused(link, OpenAnswer::OldNumber);
+    }
+    if !has_tag(form, link, sealed, sequence) {
+        return refused(link, OpenAnswer::WrongTag);
+    }
+    put_message(form, link, sealed, sequence, out);
+    let mut next = link;
+    next.last = sequence as u32;
+    Opening {
+        answer: OpenAnswer::Opened { len },
+        link: next,
+    }
 }
 
 impl Receiver {
@@ -78,66 +175,10 @@ impl Receiver {
 
     // Opens a record, and hands the link back: with the record's number where it was accepted.
     pub fn open(self, sealed: &[u8], out: &mut [u8]) -> Opening
-        ensures { λ r. ⌜ openSays (r .answer) ≡ openAnswer self (now (sealed .entry)) (length (now (out .entry))) ⌝ }
-        ensures { λ r. ⌜ r .link ≡ openLink self (now (sealed .entry)) (length (now (out .entry))) ⌝ }
-        ensures { λ r. ⌜ now (out .exit) ≡ openOutput self (now (sealed .entry)) (now (out .entry)) ⌝ }
+        ensures { λ r. ⌜ openSays (r .answer) ≡ openAnswer standard encrypt self (now (sealed .entry)) (length (now (out .entry))) ⌝ }
+        ensures { λ r. ⌜ r .link ≡ openLink standard encrypt self (now (sealed .entry)) (length (now (out .entry))) ⌝ }
+        ensures { λ r. ⌜ now (out .exit) ≡ openOutput standard encrypt self (now (sealed .entry)) (now (out .entry)) ⌝ }
     {
-        if !self.keyed {
-            return Opening {
-                answer: OpenAnswer::NotKeyed,
-                link: self,
-            };
-        }
-        let n = sealed.len();
-        if n < 24 {
-            return Opening {
-                answer: OpenAnswer::BadLength,
-                link: self,
-            };
-        }
-        if 280 < n {
-            return Opening {
-                answer: OpenAnswer::BadLength,
-                link: self,
-            };
-        }
-        let number = blocks::number_at(sealed, 0);
-        if number != self.number {
-            return Opening {
-                answer: OpenAnswer::OtherLink,
-                link: self,
-            };
-        }
-        let len = n - 24;
-        if out.len() < len {
-            return Opening {
-                answer: OpenAnswer::ShortOutput,
-                link: self,
-            };
-        }
-        let sequence = blocks::number_at(sealed, 4);
-        if sequence <= self.last {
-            return Opening {
-                answer: OpenAnswer::OldNumber,
-                link: self,
-            };
-        }
-        let km = self.km;
-        let end = n - 16;
-        let tag = plain::tag(km, number, sequence, &sealed[8..end]);
-        if !blocks::same_at(tag, sealed, end) {
-            return Opening {
-                answer: OpenAnswer::WrongTag,
-                link: self,
-            };
-        }
-        let ke = self.ke;
-        plain::crypt(ke, number, sequence, &sealed[8..end], out, 0);
-        let mut next = self;
-        next.last = sequence;
-        Opening {
-            answer: OpenAnswer::Opened { len },
-            link: next,
-        }
+        open_in(Form::standard(), self, sealed, out)
     }
 }

@@ -1,18 +1,34 @@
 // BAKSHEESH on a block in packed form, and on its bytes.
-pub mod steps;
-
-use steps::inv_round;
-use steps::rotate_all;
-use steps::rotate_back;
-use steps::round;
-use words::form::pack;
-use words::form::unpack;
+use gates::inv_sub_cells;
+use gates::sub_cells;
+use inverse::inv_perm_bits;
+use inverse::rotate_all;
+use inverse::rotate_back;
+use packing::pack;
+use packing::unpack;
 use words::steps::ROUNDS;
 use words::steps::add;
+use words::steps::add_constants;
+use words::steps::perm_bits;
 use words::steps::rotate;
 ghost use mathlib.Core.Path.{_≡_};
-ghost use Rattle.baksheesh.specs.Baksheesh.{encrypt, decrypt};
+ghost use Prim.Native.Nat.{_<_};
+ghost use Rattle.baksheesh.specs.Baksheesh.{rounds, round, invRound, encrypt, decrypt};
 ghost use Rattle.words.specs.Words.{unpacked};
+
+fn round(s: [u32; 4], k: [u32; 4], n: usize) -> [u32; 4]
+    requires { ⌜ n < rounds ⌝ }
+    ensures { λ r. ⌜ unpacked r ≡ round n (unpacked k) (unpacked s) ⌝ }
+{
+    add(add_constants(perm_bits(sub_cells(s)), n), k)
+}
+
+fn inv_round(s: [u32; 4], k: [u32; 4], n: usize) -> [u32; 4]
+    requires { ⌜ n < rounds ⌝ }
+    ensures { λ r. ⌜ unpacked r ≡ invRound n (unpacked k) (unpacked s) ⌝ }
+{
+    inv_sub_cells(inv_perm_bits(add_constants(add(s, k), n)))
+}
 
 pub fn encrypt_words(key: [u32; 4], block: [u32; 4]) -> [u32; 4]
     ensures { λ r. ⌜ unpacked r ≡ encrypt (unpacked key) (unpacked block) ⌝ }

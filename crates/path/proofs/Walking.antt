@@ -1,71 +1,50 @@
--- The path through the calls, one call after the other, and what its shares are. Assumes nothing.
-use mathlib.Core.Path.{_≡_, refl, sym, ap, _∙_, subst}
-use mathlib.Core.List.{List, [], _∷_, _++_, append-assoc}
-use Prim.Native.Nat.{ℕ, zero, suc, _+_, _-_, _*_, _≤_, _<_}
+-- The calls of a sealing one after the other: what each takes in, and what becomes of its output. Assumes nothing.
+use mathlib.Core.Path.{_≡_, refl, sym, ap, ap₂, _∙_}
+use mathlib.Core.Bool.{cond}
+use mathlib.Core.List.{List, [], _∷_}
+use Prim.Native.Nat.{ℕ, zero, suc, _+_, _-_, _*_, _≤_, _<_, _^_}
 use native.Mathlib.Decide.{ℕ-discrete}
 use native.Mathlib.Numerals.{add-one}
 use native.Mathlib.Omega.{arith}
 use lib.Dec.{eqb}
-use lib.ListN.{length, take, length-append}
-use lib.Seq.{take-at, drop-at}
+use lib.ListN.{length}
 use borrow.Author.Tests.{eq-eqb, ne-eqb}
 use Rattle.blocks.specs.Bytes.{zeros}
 use Rattle.blocks.specs.Put.{part, put}
-use Rattle.blocks.proofs.Parts.{put-none, put-start, put-length, put-put}
-use Rattle.baksheesh.specs.Baksheesh.{rounds}
+use Rattle.blocks.proofs.Parts.{put-length}
+use Rattle.blocks.proofs.Written.{part-before, part-there}
 use Rattle.words.specs.Words.{unpacked}
 use Rattle.modes.specs.Pieces.{blockCount}
 use Rattle.links.specs.Record.{longest}
 use Rattle.links.specs.declared.Sender.{Sender}
+use Rattle.masking.specs.Shares.{i₀, i₁, i₂, Shares, add, each, only, sharesIn, flat}
+use Rattle.masking.specs.Tape.{Reader, at, pairSize, masksAt}
+use Rattle.masking.specs.Call.{encryption, pairCount, callSize}
+use Rattle.masking.proofs.Shape.{shares-same}
+use Rattle.masking.proofs.Lane.{parts-length, shares-flat}
 use Rattle.shares.specs.declared.Triple.{Triple}
-use Rattle.shares.specs.Shares.{i₀, i₁, i₂, Shares, Blocks, add, each, only, sharesIn, flat}
-use Rattle.shares.specs.Tape.{Reader, at, pairSize, callSize, masksAt}
-use Rattle.shares.specs.Call as Shared
 use Rattle.shares.specs.Packed.{sharesOf}
-use Rattle.shares.proofs.Shape.{shareRound-blocks, rotated-blocks}
-use Rattle.shares.proofs.Lane.{parts-length, first-part, second-part, third-part}
-use Rattle.shares.proofs.Packed.{zero-words, shares-same}
-use Rattle.path.specs.declared.Watch.{Watch}
-use Rattle.path.specs.declared.Seen.{Seen}
-use Rattle.path.specs.declared.Walk.{Walk}
-use Rattle.calls.specs.Calls.{Call, ctr, sub, mac, callNumber, callOf, callCount, ofKey, keyAt, callAt}
-use Rattle.calls.specs.Sealed.{lastKey, textBlock, counter, keyShares, run, ctrOut, subkey, macBlock, chain, inputOf, tagShares}
-use Rattle.path.specs.Walk.{looked, Shown, Stepped, Walked, Ready, outsSize, outputs, OutsHold, blockShares}
-
--- ---- what one call shows
-
-module _ (i j : ℕ) (s t : Triple) (old r : Seen) (e : r ≡ looked (eqb i j) s t old) where
-  pub look-hit : (k x : Shares) (M : Reader) (o n : ℕ) → sharesOf s ≡ Shared.masked k x M o (n - 1) → sharesOf t ≡ Shared.roundKey k x M o (n - 1)
-      → i ≡ j → Shown k x M o n r
-  look-hit k x M o n es et h =
-      let seen : r ≡ record { state = s; key = t } = e ∙ rw (eq-eqb i j h) in
-      record {
-        state = ap (λ (z : Seen). sharesOf (z .state)) seen ∙ es;
-        key = ap (λ (z : Seen). sharesOf (z .key)) seen ∙ et;
-      }
-
-  pub look-miss : (i ≡ j → ⊥) → r ≡ old
-  look-miss h = e ∙ rw (ne-eqb i j h)
-
--- the output shares of a call are blocks, whatever it was given
-call-made : (key input : Shares) (M : Reader) (o : ℕ) → Blocks (Shared.call key input M o)
-unfolding Shared.state
-call-made key input M o =
-    shareRound-blocks (rounds - 1) (add (Shared.state key input M o (rounds - 1)) (masksAt M (o + pairSize * (rounds - 1)))) (rotated-blocks rounds key)
-
-flat-length : (s : Shares) → Blocks s → length (flat s) ≡ 48
-flat-length s b = parts-length (b i₀) (b i₁) (b i₂)
-
-pub shares-flat : (s : Shares) → Blocks s → sharesIn (flat s) ≡ s
-shares-flat s b =
-    shares-same (first-part (b i₀) (b i₁) (b i₂)) (second-part (b i₀) (b i₁) (b i₂)) (third-part (b i₀) (b i₁) (b i₂))
+use Rattle.shares.proofs.Packed.{zero-words}
+use Rattle.shares.proofs.Onward.{packed-blocks}
+use Rattle.runs.specs.declared.Watch.{Watch}
+use Rattle.runs.specs.declared.Walk.{Walk}
+use Rattle.runs.specs.Run.{Run, keyShares, outputs, inputOf, outputOf}
+use Rattle.runs.specs.Walk.{Stepped, Walked}
+use Rattle.runs.proofs.Run.{output-at}
+use Rattle.runs.proofs.Walking.{step-more}
+use Rattle.calls.specs.Numbered.{Call, ctr, sub, mac, callNumber, callOf, callCount, ofKey, keyAt, callAt}
+use Rattle.calls.specs.Sealed.{lastKey, textBlock, counter, macBlock, chain, subkey, inputFrom, sealingCalls, ctrOut}
+use Rattle.calls.proofs.Numbered.{call-ctr, call-sub, call-mac}
+use Rattle.inputs.specs.Inputs.{outsSize, outAt, blockShares}
+use Rattle.path.specs.Path.{Ready, OutsHold}
 
 zero-shares : only (unpacked (0 ∷ 0 ∷ 0 ∷ 0 ∷ [])) ≡ λ i. zeros
 zero-shares = shares-same zero-words refl refl
 
 -- the next call can be done
-pub walked-ready : (x : Sender) (m t : List ℕ) (a : Watch) (k : ℕ) (w : Walk) → Ready x m t a → Walked x m (at t) a k w → k < callCount (blockCount (length m))
-    → (1 ≤ a .round) × (a .round ≤ rounds) × (w .used + callSize ≤ length t) × (w .calls < callCount (blockCount longest))
+pub walked-ready : (x : Sender) (m t : List ℕ) (a : Watch) (k : ℕ) (w : Walk) → Ready x m t a → Walked (sealingCalls x m) (at t) a k w
+    → k < callCount (blockCount (length m))
+    → (1 ≤ a .stage) × (a .stage ≤ pairCount) × (w .used + callSize ≤ length t) × (w .calls < 2 ^ 32)
 walked-ready x m t a k w R W h =
     (R .low, R .high, omega (arith, W .used, R .long), omega (arith, W .calls, R .short))
 
@@ -73,133 +52,108 @@ module _ (x : Sender) (m : List ℕ) (M : Reader) where
   abbrev n : ℕ
   n = blockCount (length m)
 
-  -- ---- from call to call
+  abbrev R : Run
+  R = sealingCalls x m
 
-  module _ (a : Watch) where
-    pub walked-none : {w : Walk} → w .calls ≡ 0 → w .used ≡ 2 * pairSize → Walked x m M a 0 w
-    walked-none e d = record { calls = e; used = omega (arith, d); saw = λ l h. absurd (omega arith) }
+  abbrev out : ℕ → Shares
+  out = outputOf encryption R M
 
-    pub walked-at : {k l : ℕ} {w : Walk} → k ≡ l → Walked x m M a k w → Walked x m M a l w
-    walked-at {w = w} e W = subst (λ (j : ℕ). Walked x m M a j w) e W
+  -- ---- a call that is the call c
 
-    -- the call c comes next: it leads behind itself, and its output is what it makes of its input
-    module _ (k : ℕ) (c : Call) (e : callOf n (callNumber n c) ≡ c) (number : callNumber n c ≡ k + 1) {key input : Shares} (ek : key ≡ keyShares x m M c)
-        (ei : input ≡ inputOf x m M c) {w r : Walk} (W : Walked x m M a k w) (S : Stepped key input M a w r) where
-      walked-more : Walked x m M a (k + 1) r
-      walked-more = record {
-        calls = omega (arith, S .calls, W .calls);
-        used = omega (arith, S .used, W .used);
-        saw = λ l h. elim (ℕ-discrete (k + 1) (a .call)) [
-          | yes d ↦
-              let s = S .hit (ap (λ (z : ℕ). z + 1) (W .calls) ∙ d) in
-              let f : c ≡ callOf n (a .call) = sym e ∙ ap (callOf n) (number ∙ d) in
-              let g : w .used ≡ callAt (a .call) = W .used ∙ ap callAt d in
-              record {
-                state = s .state ∙ λ i. Shared.masked ((ek ∙ ap (keyShares x m M) f) i) ((ei ∙ ap (inputOf x m M) f) i) M (g i) (a .round - 1);
-                key = s .key ∙ λ i. Shared.roundKey ((ek ∙ ap (keyShares x m M) f) i) ((ei ∙ ap (inputOf x m M) f) i) M (g i) (a .round - 1);
-              }
-          | no d ↦ rw (S .miss (λ f. d (omega (arith, W .calls)))) (W .saw l (omega arith))
-        ];
-      }
+  module _ (c : Call) (e : callOf n (callNumber n c) ≡ c) where
+    key-given : add (sharesIn (ofKey (x .ke) (x .km) c)) (masksAt M (keyAt c)) ≡ keyShares encryption R M (callNumber n c)
+    unfolding keyShares
+    key-given = λ i. add (sharesIn (ofKey (x .ke) (x .km) (sym e i))) (masksAt M (keyAt (sym e i)))
 
-      made-more : sharesOf (r .out) ≡ run x m M c (inputOf x m M c)
-      unfolding run
-      made-more = S .out ∙ λ i. Shared.call (ek i) (ei i) M ((W .used ∙ ap callAt (sym number)) i)
+    input-given : inputFrom x m c (outputs encryption R M (callNumber n c - 1)) ≡ inputOf encryption R M (callNumber n c)
+    unfolding inputOf
+    input-given = λ i. inputFrom x m (sym e i) (outputs encryption R M (callNumber n c - 1))
 
-      pub step-more : Walked x m M a (k + 1) r × (sharesOf (r .out) ≡ run x m M c (inputOf x m M c))
-      step-more = (walked-more, made-more)
+    -- it comes next: it leads behind itself, and gives its output
+    pub call-more : (a : Watch) (k : ℕ) → callNumber n c ≡ k + 1 → {key input : Shares}
+        → key ≡ add (sharesIn (ofKey (x .ke) (x .km) c)) (masksAt M (keyAt c))
+        → input ≡ inputFrom x m c (outputs encryption R M (callNumber n c - 1))
+        → {w r : Walk} → Walked R M a k w → Stepped key input M a w r
+        → Walked R M a (callNumber n c) r × (sharesOf (r .out) ≡ out (callNumber n c))
+    call-more a k number ek ei W S = step-more R M a k (callNumber n c) number (omega arith) (ek ∙ key-given) (ei ∙ input-given) W S
 
-  pub key-given : (c : Call) → add (sharesIn (ofKey (x .ke) (x .km) c)) (masksAt M (keyAt c)) ≡ keyShares x m M c
-  unfolding keyShares
-  key-given c = refl
+  -- ---- what CTR's calls take in, and their output shares
 
-  -- ---- CTR's calls and their output shares
+  pub ctr-in : (j : ℕ) (f : ℕ → Shares) → only (counter x m j) ≡ inputFrom x m (ctr j) f
+  unfolding inputFrom
+  ctr-in j f = refl
 
-  pub ctr-in : (j : ℕ) → only (counter x m M j) ≡ inputOf x m M (ctr j)
-  unfolding inputOf
-  ctr-in j = refl
+  pub outs-none : (o : List ℕ) → length o ≡ outsSize → OutsHold x m M 0 o
+  outs-none o s = record { size = s; hold = λ j h. absurd (omega arith) }
 
-  pub ctr-made : (j : ℕ) → run x m M (ctr j) (inputOf x m M (ctr j)) ≡ ctrOut x m M j
-  unfolding inputOf ctrOut
-  ctr-made j = refl
-
-  pub ctrOut-made : (j : ℕ) → Blocks (ctrOut x m M j)
-  unfolding ctrOut run
-  ctrOut-made j = call-made _ _ M _
-
-  outputs-length : (j : ℕ) → length (outputs x m M j) ≡ 48 * j
-  unfolding outputs
-  outputs-length zero = refl
-  outputs-length (suc j) =
-      let v : List ℕ = flat (ctrOut x m M j) in
-      length-append (outputs x m M j) v ∙ omega (arith, outputs-length j, flat-length (ctrOut x m M j) (ctrOut-made j))
-
-  pub outputs-none : (o : List ℕ) → o ≡ put 0 (outputs x m M 0) o
-  unfolding outputs
-  outputs-none o = sym (put-none 0 o)
-
-  pub outputs-more : (j : ℕ) (v o out : List ℕ) → out ≡ put 0 (outputs x m M j) o → v ≡ flat (ctrOut x m M j) → 48 * j ≤ length o
-      → put (48 * j) v out ≡ put 0 (outputs x m M (j + 1)) o
-  unfolding outputs
-  outputs-more j v o out e d h =
-      (λ i. put (48 * j) (d i) (e i))
-      ∙ put-put 0 (outputs x m M j) (flat (ctrOut x m M j)) o (48 * j) (omega (arith, outputs-length j)) (omega (arith, outputs-length j))
-      ∙ rw add-one
-
-  pub outputs-size : (j : ℕ) (o out : List ℕ) → out ≡ put 0 (outputs x m M j) o → 48 * j ≤ length o → length out ≡ length o
-  outputs-size j o out e h = ap length e ∙ put-length 0 (outputs x m M j) o (omega (arith, outputs-length j))
-
-  -- those of call j, where they were written
-  outputs-part : (k j : ℕ) (rest : List ℕ) → j < k → part (48 * j) 48 (outputs x m M k ++ rest) ≡ flat (ctrOut x m M j)
-  unfolding outputs
-  outputs-part zero j rest l = absurd (omega arith)
-  outputs-part (suc k) j rest l =
-      let v : List ℕ = flat (ctrOut x m M k) in
-      ap (part (48 * j) 48) (append-assoc (outputs x m M k) v rest)
-      ∙ elim (ℕ-discrete j k) [
-        | yes e ↦ rw e
-            (ap (take 48) (drop-at (outputs x m M k) (v ++ rest) (48 * k) (outputs-length k)) ∙ take-at v rest 48 (flat-length _ (ctrOut-made k)))
-        | no e ↦ outputs-part k j (v ++ rest) (omega arith)
-      ]
-
-  pub outs-hold : (o out : List ℕ) → out ≡ put 0 (outputs x m M n) o → length o ≡ outsSize → length m ≤ longest → OutsHold x m M out
-  outs-hold o out e s h = record {
-    size = outputs-size n o out e (omega arith) ∙ s;
-    hold = λ j l. ap (part (48 * j) 48) (e ∙ put-start (outputs x m M n) o) ∙ outputs-part n j _ l;
+  pub outs-more : (j : ℕ) (t : Triple) (v o : List ℕ) → OutsHold x m M j o → 48 * j + 48 ≤ outsSize → v ≡ flat (sharesOf t)
+      → sharesOf t ≡ ctrOut x m M j → OutsHold x m M (j + 1) (put (48 * j) v o)
+  outs-more j t v o H fit e d = record {
+    size = put-length (48 * j) v o (omega (arith, long, H .size)) ∙ H .size;
+    hold = λ i l. elim (ℕ-discrete i j) [
+      | yes q ↦ rw q
+          (ap sharesIn (part-there (48 * j) v o (omega (arith, H .size)) 48 long ∙ e) ∙ shares-flat (sharesOf t) (packed-blocks t) ∙ d)
+      | no q ↦ ap sharesIn (part-before (48 * j) v o (omega (arith, H .size)) (48 * i) 48 (omega arith)) ∙ H .hold i (omega arith)
+    ];
   }
+    where
+      long : length v ≡ 48
+      long = ap length e ∙ parts-length (packed-blocks t i₀) (packed-blocks t i₁) (packed-blocks t i₂)
 
-  -- ---- CMAC's calls
+  pub outs-at : {j k : ℕ} {o : List ℕ} → j ≡ k → OutsHold x m M j o → OutsHold x m M k o
+  outs-at e H = record { size = H .size; hold = λ i l. H .hold i (omega arith) }
 
-  pub block-held : (j : ℕ) {o : List ℕ} → OutsHold x m M o → j ≤ n → blockShares x m o j ≡ macBlock x m M j
-  unfolding macBlock
-  block-held zero H l = refl
-  block-held (suc j) H l =
-      ap (textBlock m j) (ap sharesIn (H .hold j (omega arith)) ∙ shares-flat (ctrOut x m M j) (ctrOut-made j))
+  -- ---- what CMAC's calls take in
 
-  pub subkey-made : {l : Shares} → l ≡ run x m M sub (inputOf x m M sub) → each (lastKey (length m)) l ≡ subkey x m M
-  unfolding subkey inputOf
-  subkey-made e = ap (each (lastKey (length m))) e
+  pub sub-in : (f : ℕ → Shares) {s : Shares} → s ≡ only (unpacked (0 ∷ 0 ∷ 0 ∷ 0 ∷ [])) → s ≡ inputFrom x m sub f
+  unfolding inputFrom
+  sub-in f e = e ∙ zero-shares
 
-  pub sub-in : {s : Shares} → s ≡ only (unpacked (0 ∷ 0 ∷ 0 ∷ 0 ∷ [])) → s ≡ inputOf x m M sub
-  unfolding inputOf
-  sub-in e = e ∙ zero-shares
-
-  pub chain-none : {s : Shares} → s ≡ only (unpacked (0 ∷ 0 ∷ 0 ∷ 0 ∷ [])) → s ≡ chain x m M 0
+  pub chain-none : {s : Shares} → s ≡ only (unpacked (0 ∷ 0 ∷ 0 ∷ 0 ∷ [])) → s ≡ chain x m out 0
   unfolding chain
   chain-none e = e ∙ zero-shares
 
-  pub chain-in : (j : ℕ) → j < n → add (chain x m M j) (macBlock x m M j) ≡ inputOf x m M (mac j)
-  unfolding inputOf
-  chain-in j l = rw (ne-eqb j n (λ e. omega arith))
-
-  pub chain-more : (j : ℕ) → j < n → run x m M (mac j) (inputOf x m M (mac j)) ≡ chain x m M (j + 1)
+  pub chain-more : (j : ℕ) → out (callNumber n (mac j)) ≡ chain x m out (j + 1)
   unfolding chain
-  chain-more j l = rw (sym (chain-in j l), add-one)
+  chain-more j = rw add-one
 
-  pub last-in : add (chain x m M n) (add (subkey x m M) (macBlock x m M n)) ≡ inputOf x m M (mac n)
-  unfolding inputOf
-  last-in = rw (eq-eqb n n refl)
+  -- the blocks, with the output shares in o
+  pub block-held : (j : ℕ) {o : List ℕ} → OutsHold x m M n o → j ≤ n → blockShares x m o j ≡ macBlock x m out j
+  unfolding macBlock
+  block-held zero H l = refl
+  block-held (suc j) H l = ap (textBlock m j) (H .hold j (omega arith))
 
-  pub tag-made : run x m M (mac n) (inputOf x m M (mac n)) ≡ tagShares x m M
-  unfolding tagShares inputOf
-  tag-made = refl
+  pub subkey-made : {l : Shares} → l ≡ out (callNumber n sub) → each (lastKey (length m)) l ≡ subkey x m out
+  unfolding subkey
+  subkey-made e = ap (each (lastKey (length m))) e
+
+  -- the outputs of the first k calls are the run's
+  module _ (j k : ℕ) (l : j ≤ n) (h : n + 1 + j ≤ k) where
+    abbrev f : ℕ → Shares
+    f = outputs encryption R M k
+
+    known : (i : ℕ) → 1 ≤ i → i ≤ n + 1 + j → out i ≡ f i
+    known i p q = sym (output-at encryption R M k i p (omega arith))
+
+    blocks-known : (i : ℕ) → i ≤ n → macBlock x m out i ≡ macBlock x m f i
+    unfolding macBlock
+    blocks-known zero q = refl
+    blocks-known (suc i) q = ap (textBlock m i) (known (1 + i) (omega arith) (omega arith))
+
+    chain-known : (i : ℕ) → i ≤ j → chain x m out i ≡ chain x m f i
+    unfolding chain
+    chain-known zero q = refl
+    chain-known (suc i) q = known (n + 2 + i) (omega arith) (omega arith)
+
+    subkey-known : subkey x m out ≡ subkey x m f
+    unfolding subkey
+    subkey-known = ap (each (lastKey (length m))) (known (n + 1) (omega arith) (omega arith))
+
+    -- block j goes in with the chain before it; the last one with its subkey too
+    pub chain-in : j < n → add (chain x m out j) (macBlock x m out j) ≡ inputFrom x m (mac j) f
+    unfolding inputFrom
+    chain-in q = rw (ne-eqb j n (λ e. omega arith)) (ap₂ add (chain-known j (omega arith)) (blocks-known j l))
+
+    pub last-in : j ≡ n → add (chain x m out j) (add (subkey x m out) (macBlock x m out j)) ≡ inputFrom x m (mac j) f
+    unfolding inputFrom
+    last-in q = rw (eq-eqb j n q) (ap₂ add (chain-known j (omega arith)) (ap₂ add subkey-known (blocks-known j l)))

@@ -1,3 +1,2 @@
 pub mod Sealed
-pub mod Tagging
 pub mod Answers

@@ -5,7 +5,7 @@ use Prim.Native.Nat.{ℕ, _≤_}
 use native.Mathlib.Omega.{arith}
 use lib.ListN.{length}
 use Rattle.answers.specs.Answer.{done, numberOf}
-use Rattle.links.specs.Record.{longest, recordSize}
+use Rattle.links.specs.Record.{standard, longest, recordSize}
 use Rattle.links.specs.declared.Sender.{Sender}
 use Rattle.calls.specs.Entry.{sealAnswer}
 use Rattle.calls.specs.Demand.{Accepted}
@@ -19,11 +19,11 @@ module _ (x : Sender) (m t : List ℕ) (o n u : ℕ) (e : sealAnswer x m t o ≡
   accepted : Accepted x m t o
   accepted = ap numberOf e
 
-  size : recordSize (length m) ≡ n
+  size : recordSize standard (length m) ≡ n
   size = let v = sym (accepted-values x m t o accepted) ∙ e in cc
 
 pub fits : (x : Sender) (m t : List ℕ) {o l n u : ℕ} {a : SealAnswer} → sealSays a ≡ sealAnswer x m t o → a ≡ Sealed n u → l ≡ o
-    → (n ≤ l) × (n ≤ recordSize longest)
+    → (n ≤ l) × (n ≤ recordSize standard longest)
 fits x m t {o = o} {n = n} {u = u} e s k =
     let d : sealAnswer x m t o ≡ done (n ∷ u ∷ []) = sym e ∙ ap sealSays s in
     let r = room x m t o (accepted x m t o n u d) in

@@ -1,35 +1,25 @@
 // The calls of a host in C: each slice is a pointer and a length, and each call returns 0 or the refusal's number.
-pub mod receiving;
-pub mod sending;
-
-use engines::BlockAnswer;
-use links::KeyAnswer;
+use engines::Cipher;
 ghost use mathlib.Core.Path.{_≡_};
-ghost use Prim.Native.Nat.{_+_};
 ghost use lib.ListN.{length};
 ghost use Rattle.answers.specs.Answer.{numberOf};
 ghost use Rattle.baksheesh.specs.Baksheesh.{encrypt, decrypt};
-ghost use Rattle.engines.specs.Block.{blockSays, blockAnswer, blockOutput};
-ghost use Rattle.links.specs.Links.{keySays};
-ghost use Rattle.rasppuce.specs.Lent.{keysAt, flag, linkBytes};
+ghost use Rattle.engines.specs.Block.{blockAnswer, blockOutput};
+ghost use Rattle.links.specs.Record.{standard};
+ghost use Rattle.plain.specs.Entry.{plainAnswer, plainOutput};
+ghost use Rattle.calls.specs.Entry.{reportAnswer, reportOutput};
+ghost use Rattle.sending.specs.Stored.{senderIn};
+ghost use Rattle.sending.specs.Calls.{senderKeying, keyedSender, sealedAnswer, sealedLink, recordOutput, sharesOutput};
+ghost use Rattle.receiving.specs.Calls.{receiverKeying, keyedReceiver, openedAnswer, openedLink, openedOutput};
 
 // ---- block calls
-
-fn block_number(a: BlockAnswer) -> u32
-    ensures { λ r. ⌜ r ≡ numberOf (blockSays a) ⌝ }
-{
-    match a {
-        BlockAnswer::Done => 0,
-        BlockAnswer::BadLength => 5,
-    }
-}
 
 #[no_mangle]
 pub extern "C" fn rasppuce_encrypt_table(key: &[u8], input: &[u8], output: &mut [u8]) -> u32
     ensures { λ r. ⌜ r ≡ numberOf (blockAnswer (now (key .entry)) (now (input .entry)) (now (output .entry))) ⌝ }
     ensures { λ r. ⌜ now (output .exit) ≡ blockOutput encrypt (now (key .entry)) (now (input .entry)) (now (output .entry)) ⌝ }
 {
-    block_number(engines::encrypt_table(key, input, output))
+    engines::call(Cipher::EncryptTable, key, input, output).number()
 }
 
 #[no_mangle]
@@ -37,7 +27,7 @@ pub extern "C" fn rasppuce_encrypt_packed(key: &[u8], input: &[u8], output: &mut
     ensures { λ r. ⌜ r ≡ numberOf (blockAnswer (now (key .entry)) (now (input .entry)) (now (output .entry))) ⌝ }
     ensures { λ r. ⌜ now (output .exit) ≡ blockOutput encrypt (now (key .entry)) (now (input .entry)) (now (output .entry)) ⌝ }
 {
-    block_number(engines::encrypt_packed(key, input, output))
+    engines::call(Cipher::EncryptPacked, key, input, output).number()
 }
 
 #[no_mangle]
@@ -45,7 +35,7 @@ pub extern "C" fn rasppuce_decrypt_table(key: &[u8], input: &[u8], output: &mut 
     ensures { λ r. ⌜ r ≡ numberOf (blockAnswer (now (key .entry)) (now (input .entry)) (now (output .entry))) ⌝ }
     ensures { λ r. ⌜ now (output .exit) ≡ blockOutput decrypt (now (key .entry)) (now (input .entry)) (now (output .entry)) ⌝ }
 {
-    block_number(engines::decrypt_table(key, input, output))
+    engines::call(Cipher::DecryptTable, key, input, output).number()
 }
 
 #[no_mangle]
@@ -53,34 +43,98 @@ pub extern "C" fn rasppuce_decrypt_packed(key: &[u8], input: &[u8], output: &mut
     ensures { λ r. ⌜ r ≡ numberOf (blockAnswer (now (key .entry)) (now (input .entry)) (now (output .entry))) ⌝ }
     ensures { λ r. ⌜ now (output .exit) ≡ blockOutput decrypt (now (key .entry)) (now (input .entry)) (now (output .entry)) ⌝ }
 {
-    block_number(engines::decrypt_packed(key, input, output))
+    engines::call(Cipher::DecryptPacked, key, input, output).number()
 }
 
-// ---- what the calls on links share
+// ---- the calls on a sending link
 
-fn key_number(a: KeyAnswer) -> u32
-    ensures { λ r. ⌜ r ≡ numberOf (keySays a) ⌝ }
+// Keys a sending link: three shares of KE, then three of KM.
+#[no_mangle]
+pub extern "C" fn rasppuce_key_sender(link: &mut [u8], number: u32, keys: &[u8]) -> u32
+    ensures { λ r. ⌜ r ≡ numberOf (senderKeying (now (link .entry)) (now (keys .entry))) ⌝ }
+    ensures { λ r. ⌜ now (link .exit) ≡ keyedSender (now (link .entry)) number (now (keys .entry)) ⌝ }
 {
-    match a {
-        KeyAnswer::Keyed => 0,
-        KeyAnswer::BadKeys => 1,
-    }
+    sending::key(link, number, keys)
 }
 
-fn keyed_byte(keyed: bool) -> u8
-    ensures { λ r. ⌜ r ≡ flag keyed ⌝ }
+// Seals a message on shares, with the masks of the tape.
+#[no_mangle]
+pub extern "C" fn rasppuce_seal(
+    link: &mut [u8],
+    message: &[u8],
+    tape: &[u8],
+    out: &mut [u8],
+    shares: &mut [u8],
+) -> u32
+    ensures { λ r. ⌜ r
+        ≡ numberOf (sealedAnswer (now (link .entry)) (now (message .entry)) (now (tape .entry)) (length (now (out .entry)))
+        (length (now (shares .entry)))) ⌝ }
+    ensures { λ r. ⌜ now (link .exit)
+        ≡ sealedLink (now (link .entry)) (now (message .entry)) (now (tape .entry)) (length (now (out .entry)))
+        (length (now (shares .entry))) ⌝ }
+    ensures { λ r. ⌜ now (out .exit)
+        ≡ recordOutput (now (link .entry)) (now (message .entry)) (now (tape .entry)) (now (out .entry)) (now (shares .entry)) ⌝ }
+    ensures { λ r. ⌜ now (shares .exit)
+        ≡ sharesOutput (now (link .entry)) (now (message .entry)) (now (tape .entry)) (now (out .entry)) (now (shares .entry)) ⌝ }
 {
-    if keyed { 1 } else { 0 }
+    sending::seal(link, message, tape, out, shares)
 }
 
-// Writes the bytes that say a link.
-fn put_link(keyed: bool, number: u32, last: u32, ke: &[u8], km: &[u8], bytes: &mut [u8])
-    requires { ⌜ length (now bytes) ≡ keysAt + (length (now ke) + length (now km)) ⌝ }
-    ensures { λ _. ⌜ now (bytes .exit) ≡ linkBytes keyed number last (now (ke .entry)) (now (km .entry)) ⌝ }
+// Writes a lane of the sealing that the link would do next.
+#[no_mangle]
+pub extern "C" fn rasppuce_report(
+    link: &[u8],
+    message: &[u8],
+    tape: &[u8],
+    call: u32,
+    round: u32,
+    lane: u32,
+    out: &mut [u8],
+) -> u32
+    ensures { λ r. ⌜ r
+        ≡ numberOf (reportAnswer (senderIn (now (link .entry))) (now (message .entry)) (now (tape .entry)) call round lane
+        (length (now (out .entry)))) ⌝ }
+    ensures { λ r. ⌜ now (out .exit)
+        ≡ reportOutput (senderIn (now (link .entry))) (now (message .entry)) (now (tape .entry)) call round lane (now (out .entry)) ⌝ }
 {
-    blocks::put_bytes(&[keyed_byte(keyed)], bytes, 0);
-    blocks::put_number(bytes, 1, number);
-    blocks::put_number(bytes, 5, last);
-    blocks::put_bytes(ke, bytes, 9);
-    blocks::put_bytes(km, bytes, 9 + ke.len());
+    sending::report(link, message, tape, call, round, lane, out)
+}
+
+// Seals a message plainly: KE, then KM.
+#[no_mangle]
+pub extern "C" fn rasppuce_seal_plain(
+    keys: &[u8],
+    number: u32,
+    sequence: u32,
+    message: &[u8],
+    out: &mut [u8],
+) -> u32
+    ensures { λ r. ⌜ r
+        ≡ numberOf (plainAnswer standard (now (keys .entry)) sequence (now (message .entry)) (length (now (out .entry)))) ⌝ }
+    ensures { λ r. ⌜ now (out .exit)
+        ≡ plainOutput standard encrypt (now (keys .entry)) number sequence (now (message .entry)) (now (out .entry)) ⌝ }
+{
+    let answer = plain::seal(keys, number, sequence, message, out);
+    answer.number()
+}
+
+// ---- the calls on a receiving link
+
+// Keys a receiving link: KE, then KM.
+#[no_mangle]
+pub extern "C" fn rasppuce_key_receiver(link: &mut [u8], number: u32, keys: &[u8]) -> u32
+    ensures { λ r. ⌜ r ≡ numberOf (receiverKeying (now (link .entry)) (now (keys .entry))) ⌝ }
+    ensures { λ r. ⌜ now (link .exit) ≡ keyedReceiver (now (link .entry)) number (now (keys .entry)) ⌝ }
+{
+    receiving::key(link, number, keys)
+}
+
+// Opens a record.
+#[no_mangle]
+pub extern "C" fn rasppuce_open(link: &mut [u8], sealed: &[u8], out: &mut [u8]) -> u32
+    ensures { λ r. ⌜ r ≡ numberOf (openedAnswer (now (link .entry)) (now (sealed .entry)) (length (now (out .entry)))) ⌝ }
+    ensures { λ r. ⌜ now (link .exit) ≡ openedLink (now (link .entry)) (now (sealed .entry)) (length (now (out .entry))) ⌝ }
+    ensures { λ r. ⌜ now (out .exit) ≡ openedOutput (now (link .entry)) (now (sealed .entry)) (now (out .entry)) ⌝ }
+{
+    receiving::open(link, sealed, out)
 }

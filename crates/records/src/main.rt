@@ -1,51 +1,20 @@
 // Plain sealing and opening: records, the messages that they open to, and refusals.
 use opening::OpenAnswer;
 use opening::Receiver;
-use plain::PlainAnswer;
-ghost use mathlib.Core.Path.{_≡_};
-ghost use Rattle.answers.specs.Answer.{numberOf};
-ghost use Rattle.plain.specs.Entry.{plainSays};
-ghost use Rattle.opening.specs.Open.{openSays};
 
 const NUMBER: u32 = 0x01020304;
-
-fn seal_number(a: PlainAnswer) -> u64
-    ensures { λ r. ⌜ r ≡ numberOf (plainSays a) ⌝ }
-{
-    match a {
-        PlainAnswer::Sealed { len: _ } => 0,
-        PlainAnswer::BadKeys => 1,
-        PlainAnswer::ZeroSequence => 10,
-        PlainAnswer::LongMessage => 2,
-        PlainAnswer::ShortOutput => 4,
-    }
-}
-
-fn open_number(a: OpenAnswer) -> u64
-    ensures { λ r. ⌜ r ≡ numberOf (openSays a) ⌝ }
-{
-    match a {
-        OpenAnswer::Opened { len: _ } => 0,
-        OpenAnswer::NotKeyed => 20,
-        OpenAnswer::BadLength => 7,
-        OpenAnswer::OtherLink => 8,
-        OpenAnswer::ShortOutput => 4,
-        OpenAnswer::OldNumber => 22,
-        OpenAnswer::WrongTag => 9,
-    }
-}
 
 // Prints the number that sealing gives.
 fn try_seal(what: &[u8], keys: &[u8], sequence: u32, message: &[u8], out: &mut [u8]) {
     let answer = plain::seal(keys, NUMBER, sequence, message, out);
-    show::tried(what, seal_number(answer));
+    show::tried(what, answer.number() as u64);
 }
 
 // Prints the number that opening gives.
 fn try_open(what: &[u8], link: Receiver, record: &[u8], out: &mut [u8]) -> Receiver {
     let opening = link.open(record, out);
     let answer = opening.answer;
-    show::tried(what, open_number(answer));
+    show::tried(what, answer.number() as u64);
     let next = opening.link;
     next
 }

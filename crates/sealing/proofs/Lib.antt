@@ -1,4 +1,3 @@
-pub mod Stream
-pub mod Refusals
 pub mod Answers
-pub mod Reporting
+pub mod Sealed
+pub mod Lanes

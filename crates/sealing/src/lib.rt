@@ -1,105 +1,23 @@
 // Shared sealing and the lane report.
+use links::Form;
+use links::LONGEST;
 use links::Sender;
-use path::Seen;
-use path::Watch;
+use outgoing::lane_of;
+use outgoing::put_record;
 use path::run;
-use shares::Triple;
-use shares::pack_shares;
+use runs::Watch;
+use shares::CALL;
+use shares::PAIR;
+use shares::PAIRS;
 use shares::unpack_shares;
-use words::form::unpack;
-use words::steps::add;
 ghost use mathlib.Core.Path.{_≡_};
-ghost use Prim.Native.Nat.{_+_, _-_, _*_, _≤_, _<_};
+ghost use Prim.Native.Nat.{_≤_};
 ghost use lib.ListN.{length, replicate};
-ghost use Rattle.blocks.specs.Put.{put};
-ghost use Rattle.links.specs.Record.{longest, recordSize, recordOf};
-ghost use Rattle.shares.specs.Shares.{join, sharesIn};
-ghost use Rattle.shares.specs.Tape.{at};
-ghost use Rattle.calls.specs.Calls.{tapeNeed};
-ghost use Rattle.calls.specs.Entry.{sealAnswer, sealLink, sealShares, sealOutput, reportAnswer, hasLane, reportOutput, indexOf};
-ghost use Rattle.path.specs.Walk.{outsSize};
+ghost use Rattle.answers.specs.Answer.{numberOf};
+ghost use Rattle.links.specs.Record.{longest};
+ghost use Rattle.calls.specs.Numbered.{tapeNeed};
+ghost use Rattle.calls.specs.Entry.{sealAnswer, sealLink, sealShares, sealOutput, reportAnswer, hasLane, reportOutput};
 ghost use Rattle.sealing.specs.Says.{sealSays, reportSays};
-ghost use Rattle.sealing.specs.Outgoing.{ciphertextOf, laneIn};
-
-// ---- what leaves the shares
-
-// The block that three shares, one behind the other, join to.
-fn joined(b: [u8; 48]) -> [u8; 16]
-    ensures { λ r. ⌜ r ≡ join (sharesIn b) ⌝ }
-{
-    let s = pack_shares(b);
-    let x = s.a;
-    let y = s.b;
-    let z = s.c;
-    unpack(add(x, add(y, z)))
-}
-
-// Writes the ciphertext from `at`: the message XORed with the joined outputs of CTR's calls.
-fn put_ciphertext(message: &[u8], outs: &[u8], out: &mut [u8], at: usize)
-    requires { ⌜ (length (now message) ≤ longest) × (length (now outs) ≡ outsSize) × (at + length (now message) ≤ length (now out)) ⌝ }
-    ensures { λ _. ⌜ now (out .exit) ≡ put at (ciphertextOf (now (message .entry)) (now (outs .entry))) (now (out .entry)) ⌝ }
-{
-    let count = (message.len() + 15) / 16;
-    let mut j = 0;
-    while j < count {
-        let key = joined(blocks::blocks_at(outs, 48 * j));
-        modes::put_xor(message, j, key, out, at + 16 * j);
-        j += 1;
-    }
-}
-
-// Writes the record: number, sequence number, ciphertext, joined tag.
-fn put_record(
-    number: u32,
-    sequence: u32,
-    message: &[u8],
-    outs: &[u8],
-    shares: [u8; 48],
-    out: &mut [u8],
-)
-    requires { ⌜ (length (now message) ≤ longest) × (length (now outs) ≡ outsSize) × (recordSize (length (now message)) ≤ length (now out)) ⌝ }
-    ensures { λ _. ⌜ now (out .exit) ≡ put 0 (recordOf number sequence (ciphertextOf (now (message .entry)) (now (outs .entry))) (join (sharesIn shares))) (now (out .entry)) ⌝ }
-{
-    blocks::put_number(out, 0, number);
-    blocks::put_number(out, 4, sequence);
-    put_ciphertext(message, outs, out, 8);
-    let end = message.len() + 8;
-    blocks::put_bytes(&joined(shares), out, end);
-}
-
-// Lane i of what a round shows: state shares i + 1 and i + 2, then key share i.
-fn lane_of(seen: Seen, i: u32) -> [u8; 48]
-    requires { ⌜ i < 3 ⌝ }
-    ensures { λ r. ⌜ r ≡ laneIn seen (indexOf i) ⌝ }
-{
-    let s = seen.state;
-    let k = seen.key;
-    let s0 = s.a;
-    let s1 = s.b;
-    let s2 = s.c;
-    let k0 = k.a;
-    let k1 = k.b;
-    let k2 = k.c;
-    if i == 0 {
-        return unpack_shares(Triple {
-            a: s1,
-            b: s2,
-            c: k0,
-        });
-    }
-    if i == 1 {
-        return unpack_shares(Triple {
-            a: s2,
-            b: s0,
-            c: k1,
-        });
-    }
-    unpack_shares(Triple {
-        a: s0,
-        b: s1,
-        c: k2,
-    })
-}
 
 // ---- sealing
 
@@ -111,6 +29,22 @@ pub enum SealAnswer {
     LongMessage,
     ShortTape,
     ShortOutput,
+}
+
+impl SealAnswer {
+    // 0, or the refusal's number.
+    pub fn number(self) -> u32
+        ensures { λ r. ⌜ r ≡ numberOf (sealSays self) ⌝ }
+    {
+        match self {
+            SealAnswer::Sealed { len: _, used: _ } => 0,
+            SealAnswer::NotKeyed => 20,
+            SealAnswer::NumbersUsed => 21,
+            SealAnswer::LongMessage => 2,
+            SealAnswer::ShortTape => 3,
+            SealAnswer::ShortOutput => 4,
+        }
+    }
 }
 
 // The tag's three shares stand one behind the other; zeros where the sealing is refused.
@@ -125,7 +59,7 @@ fn tape_need(n: usize) -> usize
     requires { ⌜ n ≤ longest ⌝ }
     ensures { λ r. ⌜ r ≡ tapeNeed n ⌝ }
 {
-    64 + 1120 * (2 * ((n + 15) / 16) + 2)
+    2 * PAIR + CALL * (2 * ((n + 15) / 16) + 2)
 }
 
 fn refused(link: Sender, answer: SealAnswer) -> Sealing
@@ -138,9 +72,13 @@ fn refused(link: Sender, answer: SealAnswer) -> Sealing
     }
 }
 
+// The greatest sequence number.
+const GREATEST: u32 = 4294967295;
+
 // Seals a message on the link's next number, and hands the link back: advanced where the message was sealed.
 pub fn seal(link: Sender, message: &[u8], tape: &[u8], out: &mut [u8]) -> Sealing
-    ensures { λ r. ⌜ sealSays (r .answer) ≡ sealAnswer link (now (message .entry)) (now (tape .entry)) (length (now (out .entry))) ⌝ }
+    ensures { λ r. ⌜ sealSays (r .answer)
+        ≡ sealAnswer link (now (message .entry)) (now (tape .entry)) (length (now (out .entry))) ⌝ }
     ensures { λ r. ⌜ r .link ≡ sealLink link (now (message .entry)) (now (tape .entry)) (length (now (out .entry))) ⌝ }
     ensures { λ r. ⌜ r .shares ≡ sealShares link (now (message .entry)) (now (tape .entry)) (length (now (out .entry))) ⌝ }
     ensures { λ r. ⌜ now (out .exit) ≡ sealOutput link (now (message .entry)) (now (tape .entry)) (now (out .entry)) ⌝ }
@@ -148,27 +86,37 @@ pub fn seal(link: Sender, message: &[u8], tape: &[u8], out: &mut [u8]) -> Sealin
     if !link.keyed {
         return refused(link, SealAnswer::NotKeyed);
     }
-    if link.last == 4294967295 {
+    if link.last == GREATEST {
         return refused(link, SealAnswer::NumbersUsed);
     }
     let n = message.len();
-    if 256 < n {
+    if LONGEST < n {
         return refused(link, SealAnswer::LongMessage);
     }
     let need = tape_need(n);
     if tape.len() < need {
         return refused(link, SealAnswer::ShortTape);
     }
-    let len = n + 24;
+    let form = Form::standard();
+    let len = n + form.added();
     if out.len() < len {
         return refused(link, SealAnswer::ShortOutput);
     }
     let mut outs = [0u8; 768];
-    let w = run(link, message, tape, Watch { call: 1, round: 35 }, &mut outs);
+    let watch = Watch { call: 1, stage: 1 };
+    let w = run(link, message, tape, watch, &mut outs);
     let tag = w.out;
     let shares = unpack_shares(tag);
     let sequence = link.last + 1;
-    put_record(link.number, sequence, message, &outs, shares, out);
+    put_record(
+        form,
+        link.number,
+        sequence as u64,
+        message,
+        &outs,
+        shares,
+        out,
+    );
     let mut next = link;
     next.last = sequence;
     Sealing {
@@ -190,6 +138,23 @@ pub enum ReportAnswer {
     ShortOutput,
 }
 
+impl ReportAnswer {
+    // 0, or the refusal's number.
+    pub fn number(self) -> u32
+        ensures { λ r. ⌜ r ≡ numberOf (reportSays self) ⌝ }
+    {
+        match self {
+            ReportAnswer::Shown => 0,
+            ReportAnswer::NotKeyed => 20,
+            ReportAnswer::NumbersUsed => 21,
+            ReportAnswer::LongMessage => 2,
+            ReportAnswer::ShortTape => 3,
+            ReportAnswer::BadLane => 6,
+            ReportAnswer::ShortOutput => 4,
+        }
+    }
+}
+
 // Whether a sealing of a message of n bytes has that lane: calls and rounds are numbered from 1, lanes from 0.
 fn has_lane(n: usize, call: u32, round: u32, lane: u32) -> bool
     requires { ⌜ n ≤ longest ⌝ }
@@ -204,7 +169,7 @@ fn has_lane(n: usize, call: u32, round: u32, lane: u32) -> bool
     if round == 0 {
         return false;
     }
-    if 35 < round {
+    if PAIRS < round as usize {
         return false;
     }
     lane < 3
@@ -220,17 +185,19 @@ pub fn report(
     lane: u32,
     out: &mut [u8],
 ) -> ReportAnswer
-    ensures { λ r. ⌜ reportSays r ≡ reportAnswer link (now (message .entry)) (now (tape .entry)) call round lane (length (now (out .entry))) ⌝ }
-    ensures { λ r. ⌜ now (out .exit) ≡ reportOutput link (now (message .entry)) (now (tape .entry)) call round lane (now (out .entry)) ⌝ }
+    ensures { λ r. ⌜ reportSays r
+        ≡ reportAnswer link (now (message .entry)) (now (tape .entry)) call round lane (length (now (out .entry))) ⌝ }
+    ensures { λ r. ⌜ now (out .exit)
+        ≡ reportOutput link (now (message .entry)) (now (tape .entry)) call round lane (now (out .entry)) ⌝ }
 {
     if !link.keyed {
         return ReportAnswer::NotKeyed;
     }
-    if link.last == 4294967295 {
+    if link.last == GREATEST {
         return ReportAnswer::NumbersUsed;
     }
     let n = message.len();
-    if 256 < n {
+    if LONGEST < n {
         return ReportAnswer::LongMessage;
     }
     if tape.len() < tape_need(n) {
@@ -245,7 +212,7 @@ pub fn report(
     let mut outs = [0u8; 768];
     let watch = Watch {
         call: call as usize,
-        round: round as usize,
+        stage: round as usize,
     };
     let w = run(link, message, tape, watch, &mut outs);
     let seen = w.seen;

@@ -4,14 +4,15 @@ use mathlib.Core.List.{List}
 use Prim.Native.Nat.{ℕ, zero, suc, _+_, _-_, _*_, _≤_}
 use native.Mathlib.Nat.{add-suc}
 use native.Mathlib.Omega.{arith}
-use Rattle.baksheesh.specs.Baksheesh.{rounds, rotated}
+use Rattle.baksheesh.specs.Baksheesh.{rotated}
 use Rattle.baksheesh.proofs.Steps.{rotated-zero, rotated-suc}
 use Rattle.words.proofs.Words.{unpacked-block}
 use Rattle.blocks.proofs.ByBits.{rearranged-twice}
 use Rattle.shares.specs.declared.Triple.{Triple}
-use Rattle.shares.specs.Shares.{i₀, i₁, i₂, Shares, Blocks, add, each, spread}
-use Rattle.shares.specs.Tape.{Reader, pairSize, masksAt}
-use Rattle.shares.specs.Call.{shareRound, state, call, masked, roundKey}
+use Rattle.masking.specs.Shares.{i₀, i₁, i₂, Shares, Blocks, add, each, spread}
+use Rattle.masking.specs.Tape.{Reader, pairSize, masksAt}
+use Rattle.masking.specs.Stages.{state, call, masked, shownShares}
+use Rattle.masking.specs.Call.{shareRound, encryption, pairCount}
 use Rattle.shares.specs.Packed.{sharesOf, onward, met}
 
 pub packed-blocks : (s : Triple) → Blocks (sharesOf s)
@@ -42,7 +43,8 @@ module _ (M : Reader) (o n : ℕ) (s k : Shares) where
   met-none = refl
 
   pub onward-more : (c r : ℕ) (t m l l′ t′ : Shares) (u v : List ℕ) → t ≡ onward M o n s k c → l ≡ each (rotated c) k
-      → u ≡ M (o + pairSize * c) → v ≡ M (o + pairSize * c + 16) → m ≡ add t (spread u v) → l′ ≡ each (rotated 1) l → r ≡ n + c → t′ ≡ shareRound r m l′
+      → u ≡ M (o + pairSize * c) → v ≡ M (o + pairSize * c + 16) → m ≡ add t (spread u v) → l′ ≡ each (rotated 1) l → r ≡ n + c
+      → t′ ≡ shareRound r m l′
       → (m ≡ met M o n s k (suc c)) × (t′ ≡ onward M o n s k (suc c)) × (l′ ≡ each (rotated (suc c)) k)
   unfolding onward met
   onward-more c r t m l l′ t′ u v et el eu ev em el′ er et′ =
@@ -53,49 +55,54 @@ module _ (M : Reader) (o n : ℕ) (s k : Shares) where
 -- ---- in a call
 
 module _ (key input : Shares) (M : Reader) (o : ℕ) where
-  pub onward-state : (n c : ℕ) → onward M (o + pairSize * n) n (state key input M o n) (each (rotated n) key) c ≡ state key input M o (n + c)
+  pub onward-state : (n c : ℕ)
+      → onward M (o + pairSize * n) n (state encryption key input M o n) (each (rotated n) key) c ≡ state encryption key input M o (n + c)
   unfolding onward state
-  onward-state n zero = let e : n ≡ n + 0 = omega arith in ap (state key input M o) e
+  onward-state n zero = let e : n ≡ n + 0 = omega arith in ap (state encryption key input M o) e
   onward-state n (suc c) =
+      let S : ℕ → Shares = state encryption key input M o in
       let e : n + suc c ≡ suc (n + c) = add-suc n c in
       let at : o + pairSize * n + pairSize * c ≡ o + pairSize * (n + c) = omega arith in
       (λ i. shareRound (n + c) (add (onward-state n c i) (masksAt M (at i))) (turned-twice (suc c) n key i))
-      ∙ ap (λ (z : ℕ). shareRound (n + c) (add (state key input M o (n + c)) (masksAt M (o + pairSize * (n + c)))) (each (rotated z) key)) e
-      ∙ ap (state key input M o) (sym e)
+      ∙ ap (λ (z : ℕ). shareRound (n + c) (add (S (n + c)) (masksAt M (o + pairSize * (n + c)))) (each (rotated z) key)) e
+      ∙ ap S (sym e)
 
 -- a call in two parts: the rounds up to the one numbered n, and the rest
 module _ (k x : Shares) (b : Blocks k) (M : Reader) (o n a : ℕ) (s₀ m s₁ k₁ s₂ : Shares)
-    (low : 1 ≤ n) (high : n ≤ rounds) (e₀ : s₀ ≡ add x k)
+    (low : 1 ≤ n) (high : n ≤ pairCount) (e₀ : s₀ ≡ add x k)
     (em : m ≡ met M o 0 s₀ k (n - 0)) (e₁ : s₁ ≡ onward M o 0 s₀ k (n - 0)) (f₁ : k₁ ≡ each (rotated (n - 0)) k)
-    (ea : a ≡ o + pairSize * (n - 0)) (e₂ : s₂ ≡ onward M a n s₁ k₁ (rounds - n)) where
+    (ea : a ≡ o + pairSize * (n - 0)) (e₂ : s₂ ≡ onward M a n s₁ k₁ (pairCount - n)) where
   none : n - 0 ≡ n
   none = omega arith
 
   up : n ≡ suc (n - 1)
   up = omega arith
 
-  reached : (c : ℕ) → onward M o 0 s₀ k c ≡ state k x M o c
+  reached : (c : ℕ) → onward M o 0 s₀ k c ≡ state encryption k x M o c
   unfolding state
   reached c =
       let at : o ≡ o + pairSize * 0 = omega arith in
       let z : 0 + c ≡ c = omega arith in
-      (λ i. onward M (at i) 0 (e₀ i) (turned-none k b i) c) ∙ onward-state k x M o 0 c ∙ ap (state k x M o) z
+      (λ i. onward M (at i) 0 (e₀ i) (turned-none k b i) c) ∙ onward-state k x M o 0 c ∙ ap (state encryption k x M o) z
 
-  shown-state : m ≡ masked k x M o (n - 1)
+  shown-state : m ≡ masked encryption k x M o (n - 1)
   unfolding masked met
   shown-state =
       em ∙ ap (met M o 0 s₀ k) (none ∙ up)
       ∙ ap (λ (s : Shares). add s (masksAt M (o + pairSize * (n - 1)))) (reached (n - 1))
 
-  shown-key : k₁ ≡ roundKey k x M o (n - 1)
-  unfolding roundKey
+  shown-key : k₁ ≡ shownShares encryption k x M o (n - 1)
+  unfolding shownShares
   shown-key = f₁ ∙ ap (λ (j : ℕ). each (rotated j) k) (none ∙ up)
 
-  reaches-end : s₂ ≡ call k x M o
+  reaches-end : s₂ ≡ call encryption k x M o
   reaches-end =
-      let z : n + (rounds - n) ≡ rounds = omega arith in
-      e₂ ∙ (λ i. onward M ((ea ∙ ap (λ (j : ℕ). o + pairSize * j) none) i) n ((e₁ ∙ reached (n - 0) ∙ ap (state k x M o) none) i) ((f₁ ∙ ap (λ (j : ℕ). each (rotated j) k) none) i) (rounds - n))
-      ∙ onward-state k x M o n (rounds - n) ∙ ap (state k x M o) z
+      let z : n + (pairCount - n) ≡ pairCount = omega arith in
+      let at = ea ∙ ap (λ (j : ℕ). o + pairSize * j) none in
+      let s = e₁ ∙ reached (n - 0) ∙ ap (state encryption k x M o) none in
+      let l = f₁ ∙ ap (λ (j : ℕ). each (rotated j) k) none in
+      e₂ ∙ (λ i. onward M (at i) n (s i) (l i) (pairCount - n))
+      ∙ onward-state k x M o n (pairCount - n) ∙ ap (state encryption k x M o) z
 
-  pub call-parts : (s₂ ≡ call k x M o) × (m ≡ masked k x M o (n - 1)) × (k₁ ≡ roundKey k x M o (n - 1))
+  pub call-parts : (s₂ ≡ call encryption k x M o) × (m ≡ masked encryption k x M o (n - 1)) × (k₁ ≡ shownShares encryption k x M o (n - 1))
   call-parts = (reaches-end, shown-state, shown-key)

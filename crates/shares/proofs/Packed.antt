@@ -1,5 +1,5 @@
 -- Shares in packed form: the shared S-box by words, and steps share by share. Assumes nothing.
-use mathlib.Core.Path.{_≡_, refl, sym, ap, _∙_, fun-ext}
+use mathlib.Core.Path.{_≡_, refl, sym, ap, _∙_}
 use mathlib.Core.Bool.{Bool, true, false, cond}
 use mathlib.Core.List.{List, [], _∷_}
 use Prim.Native.Nat.{ℕ, _+_, _*_, _<_}
@@ -16,9 +16,10 @@ use Rattle.blocks.proofs.ByBits.{cells-same, rearranged-block}
 use Rattle.baksheesh.specs.Baksheesh.{from, permBits, constant}
 use Rattle.words.specs.Words.{unpacked}
 use Rattle.words.proofs.Words.{bit-unpacked, words, ones}
-use Rattle.shares.specs.Shares.{Index, i₀, i₁, i₂, Shares, three}
-use Rattle.shares.specs.Sbox.{shareBit, sboxShare}
-use Rattle.shares.specs.Call.{laneRound, shareRound}
+use Rattle.masking.specs.Shares.{i₀, i₁, i₂, Shares, three}
+use Rattle.masking.specs.Sbox.{shareBit, sboxShare}
+use Rattle.masking.specs.Call.{laneRound, shareRound}
+use Rattle.masking.proofs.Shape.{shares-same}
 
 pub ones-if : (one : Bool) (i : ℕ) → i < 32 → bit (cond one 0xffff_ffff 0) i ≡ one
 ones-if true i h = ones i h
@@ -37,8 +38,11 @@ packed-share first a b =
     let b₀ = x b 0 (omega arith) in
     let b₁ = x b 1 (omega arith) in
     let b₂ = x b 2 (omega arith) in
-    four (λ j. shareBit first j (λ e. bitAt (unpacked a) (4 * c + e)) (λ e. bitAt (unpacked b) (4 * c + e)) ≡ shareBit first j (λ e. bit (getD a e 0) c) (λ e. bit (getD b e 0) c))
-    (simp (a₀, a₁, a₂, a₃, b₀, b₂)) (simp (a₀, a₁, a₂, a₃, b₁, b₂)) (simp (a₀, a₁, a₂, a₃, b₀, b₁, b₂)) (simp (a₀, a₁, a₂, a₃, b₀, b₁, b₂)) j l
+    four
+    (λ j. shareBit first j (λ e. bitAt (unpacked a) (4 * c + e)) (λ e. bitAt (unpacked b) (4 * c + e))
+    ≡ shareBit first j (λ e. bit (getD a e 0) c) (λ e. bit (getD b e 0) c))
+    (simp (a₀, a₁, a₂, a₃, b₀, b₂)) (simp (a₀, a₁, a₂, a₃, b₁, b₂)) (simp (a₀, a₁, a₂, a₃, b₀, b₁, b₂))
+    (simp (a₀, a₁, a₂, a₃, b₀, b₁, b₂)) j l
 
 -- by words: each product as three, and for 1 a word of it
 abbrev product : List ℕ → List ℕ → ℕ → ℕ → ℕ
@@ -54,33 +58,25 @@ pub share-words : (first : Bool) (one : ℕ) → ((i : ℕ) → i < 32 → bit o
     ) ≡ sboxShare first (unpacked a) (unpacked b)
 share-words first one e a b =
     words _ _ _ _ _
-    (λ i h. simp (bit-xor, bit-and, e i h)) (λ i h. simp (bit-xor, bit-and, e i h)) (λ i h. simp (bit-xor, bit-and)) (λ i h. simp (bit-xor, bit-and))
+    (λ i h. simp (bit-xor, bit-and, e i h)) (λ i h. simp (bit-xor, bit-and, e i h)) (λ i h. simp (bit-xor, bit-and))
+    (λ i h. simp (bit-xor, bit-and))
     ∙ sym (packed-share first a b)
-
--- two triples of shares are the same if each share is
-pub shares-same : {s t : Shares} → s i₀ ≡ t i₀ → s i₁ ≡ t i₁ → s i₂ ≡ t i₂ → s ≡ t
-shares-same {s} {t} p q r = fun-ext go
-  where
-    go : (i : Index) → s i ≡ t i
-    go i₀ = p
-    go i₁ = q
-    go i₂ = r
 
 -- a round of a lane by its steps, for the first share and for another
 module _ (n : ℕ) (f : Bool) (a b k s r : List ℕ) (moved : s ≡ permBits (sboxShare f a b)) where
-  pub lane-first : f ≡ true → r ≡ (s ⊕ constant n) ⊕ k → r ≡ laneRound n f a b k
+  pub round-first : f ≡ true → r ≡ (s ⊕ constant n) ⊕ k → r ≡ laneRound n f a b k
   unfolding laneRound
-  lane-first t e = e ∙ λ i. (moved i ⊕ cond (sym t i) (constant n) zeros) ⊕ k
+  round-first t e = e ∙ λ i. (moved i ⊕ cond (sym t i) (constant n) zeros) ⊕ k
 
-  pub lane-other : f ≡ false → r ≡ s ⊕ k → r ≡ laneRound n f a b k
+  pub round-other : f ≡ false → r ≡ s ⊕ k → r ≡ laneRound n f a b k
   unfolding laneRound
-  lane-other t e =
+  round-other t e =
       e ∙ ap (λ (z : List ℕ). z ⊕ k) (moved ∙ sym (⊕-zero (rearranged-block from (sboxShare f a b))))
       ∙ ap (λ (z : Bool). (permBits (sboxShare f a b) ⊕ cond z (constant n) zeros) ⊕ k) (sym t)
 
 -- a round lane by lane
-pub round-lanes : (n : ℕ) (s k : Shares) {a b c : List ℕ} → a ≡ laneRound n true (s i₁) (s i₂) (k i₀) → b ≡ laneRound n false (s i₂) (s i₀) (k i₁)
-    → c ≡ laneRound n false (s i₀) (s i₁) (k i₂) → three a b c ≡ shareRound n s k
+pub round-lanes : (n : ℕ) (s k : Shares) {a b c : List ℕ} → a ≡ laneRound n true (s i₁) (s i₂) (k i₀)
+    → b ≡ laneRound n false (s i₂) (s i₀) (k i₁) → c ≡ laneRound n false (s i₀) (s i₁) (k i₂) → three a b c ≡ shareRound n s k
 unfolding laneRound
 round-lanes n s k = shares-same
 

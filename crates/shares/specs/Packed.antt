@@ -4,11 +4,12 @@ use Prim.Native.Nat.{ℕ, zero, suc, _+_, _-_, _*_}
 use Rattle.baksheesh.specs.Baksheesh.{rotated}
 use Rattle.words.specs.Words.{unpacked}
 use Rattle.shares.specs.declared.Triple.{Triple}
-use Rattle.shares.specs.declared.Run.{Run}
+use Rattle.shares.specs.declared.Progress.{Progress}
 use Rattle.shares.specs.declared.Called.{Called}
-use Rattle.shares.specs.Shares.{Shares, three, add, each}
-use Rattle.shares.specs.Tape.{Reader, pairSize, callSize, masksAt}
-use Rattle.shares.specs.Call.{shareRound, call, masked, roundKey}
+use Rattle.masking.specs.Shares.{Shares, three, add, each}
+use Rattle.masking.specs.Tape.{Reader, pairSize, masksAt}
+use Rattle.masking.specs.Stages.{call, masked, shownShares}
+use Rattle.masking.specs.Call.{shareRound, encryption, callSize}
 
 -- the shares that three packed blocks say
 abbrev pub sharesOf : Triple → Shares
@@ -28,16 +29,16 @@ module _ (M : Reader) (o n : ℕ) (s k : Shares) where
   met (suc c) = add (onward c) (masksAt M (o + pairSize * c))
 
   -- r is where c rounds lead
-  pub record Onward (c : ℕ) (r : Run) : Type 0 where
+  pub record Onward (c : ℕ) (r : Progress) : Type 0 where
     pub masked : sharesOf (r .masked) ≡ met c
     pub state : sharesOf (r .state) ≡ onward c
     pub key : sharesOf (r .key) ≡ each (rotated c) k
     pub used : r .used ≡ o + pairSize * c
 
--- ---- a whole call of key shares k and input shares x: its output, and what its round numbered n shows
+-- ---- r is a whole call of key shares k and input shares x: its output, and what its stage numbered n shows
 
-pub record Calls (k x : Shares) (M : Reader) (o n : ℕ) (r : Called) : Type 0 where
-  pub out : sharesOf (r .out) ≡ call k x M o
-  pub state : sharesOf (r .state) ≡ masked k x M o (n - 1)
-  pub key : sharesOf (r .key) ≡ roundKey k x M o (n - 1)
+pub record CallDone (k x : Shares) (M : Reader) (o n : ℕ) (r : Called) : Type 0 where
+  pub out : sharesOf (r .out) ≡ call encryption k x M o
+  pub state : sharesOf (r .state) ≡ masked encryption k x M o (n - 1)
+  pub key : sharesOf (r .key) ≡ shownShares encryption k x M o (n - 1)
   pub used : r .used ≡ o + callSize

@@ -1,6 +1,7 @@
 // BAKSHEESH on three XOR shares in packed form.
-use words::form::pack;
-use words::form::unpack;
+use packing::pack;
+use packing::unpack;
+use words::steps::ROUNDS;
 use words::steps::add;
 use words::steps::add_constants;
 use words::steps::perm_bits;
@@ -11,11 +12,11 @@ ghost use Prim.Native.Nat.{_+_, _-_, _*_, _≤_, _<_};
 ghost use lib.ListN.{length};
 ghost use Rattle.baksheesh.specs.Baksheesh.{rounds, rotated};
 ghost use Rattle.words.specs.Words.{unpacked};
-ghost use Rattle.shares.specs.Shares.{spread, each, sharesIn, flat, add as addShares, only as onlyShare};
-ghost use Rattle.shares.specs.Sbox.{sboxShare};
-ghost use Rattle.shares.specs.Tape.{at, pairSize, callSize};
-ghost use Rattle.shares.specs.Call.{laneRound, shareRound};
-ghost use Rattle.shares.specs.Packed.{sharesOf, Onward, Calls};
+ghost use Rattle.masking.specs.Shares.{spread, each, sharesIn, flat, add as addShares, only as onlyShare};
+ghost use Rattle.masking.specs.Sbox.{sboxShare};
+ghost use Rattle.masking.specs.Tape.{at, pairSize};
+ghost use Rattle.masking.specs.Call.{laneRound, shareRound, pairCount, callSize};
+ghost use Rattle.shares.specs.Packed.{sharesOf, Onward, CallDone};
 
 // Three shares of a block, each in packed form.
 pub struct Triple {
@@ -184,7 +185,7 @@ pub fn draw(tape: &[u8], used: usize) -> Drawn
 
 // Where some rounds have led: the shares just after the last round's masks, the shares that it made, the key's as it added them,
 // and the count of tape bytes read.
-pub struct Run {
+pub struct Progress {
     pub masked: Triple,
     pub state: Triple,
     pub key: Triple,
@@ -192,7 +193,7 @@ pub struct Run {
 }
 
 // The rounds after the first `from`, up to the round numbered `to`.
-fn run_rounds(s: Triple, k: Triple, tape: &[u8], used: usize, from: usize, to: usize) -> Run
+fn run_rounds(s: Triple, k: Triple, tape: &[u8], used: usize, from: usize, to: usize) -> Progress
     requires { ⌜ (from ≤ to) × (to ≤ rounds) × (used + pairSize * (to - from) ≤ length (now tape)) ⌝ }
     ensures { λ r. ⌜ Onward (at (now (tape .entry))) used from (sharesOf s) (sharesOf k) (to - from) r ⌝ }
 {
@@ -215,13 +216,20 @@ fn run_rounds(s: Triple, k: Triple, tape: &[u8], used: usize, from: usize, to: u
         read = second.used;
         n += 1;
     }
-    Run {
+    Progress {
         masked,
         state,
         key,
         used: read,
     }
 }
+
+// The pairs of masks of a call, one for each round; the bytes of a pair, and of a call's masks.
+pub const PAIRS: usize = ROUNDS;
+
+pub const PAIR: usize = 32;
+
+pub const CALL: usize = PAIR * PAIRS;
 
 // A call's output, and what one of its rounds shows: the state's shares just after the masks, and the shares of the key that it adds.
 pub struct Called {
@@ -233,14 +241,14 @@ pub struct Called {
 
 // A call of key shares and input shares, with the masks from `used` on; it shows the round numbered `n`.
 pub fn call(key: Triple, input: Triple, tape: &[u8], used: usize, n: usize) -> Called
-    requires { ⌜ (1 ≤ n) × (n ≤ rounds) × (used + callSize ≤ length (now tape)) ⌝ }
-    ensures { λ r. ⌜ Calls (sharesOf key) (sharesOf input) (at (now (tape .entry))) used n r ⌝ }
+    requires { ⌜ (1 ≤ n) × (n ≤ pairCount) × (used + callSize ≤ length (now tape)) ⌝ }
+    ensures { λ r. ⌜ CallDone (sharesOf key) (sharesOf input) (at (now (tape .entry))) used n r ⌝ }
 {
     let shown = run_rounds(add_shares(input, key), key, tape, used, 0, n);
     let state = shown.masked;
     let next = shown.state;
     let turned = shown.key;
-    let after = run_rounds(next, turned, tape, shown.used, n, 35);
+    let after = run_rounds(next, turned, tape, shown.used, n, PAIRS);
     let out = after.state;
     Called {
         out,

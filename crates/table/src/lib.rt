@@ -1,14 +1,11 @@
 // BAKSHEESH by byte tables.
-mod steps;
-mod tables;
-
-use crate::steps::add;
-use crate::steps::constant;
-use crate::steps::inv_perm_bits;
-use crate::steps::inv_sub_cells;
-use crate::steps::perm_bits;
-use crate::steps::rotate;
-use crate::steps::sub_cells;
+use lookup::inv_sub_cells;
+use lookup::sub_cells;
+use permute::inv_perm_bits;
+use permute::perm_bits;
+use schedule::add;
+use schedule::constant;
+use schedule::rotate;
 ghost use mathlib.Core.Path.{_≡_};
 ghost use Prim.Native.Nat.{_<_};
 ghost use Rattle.baksheesh.specs.Baksheesh.{rounds, round, invRound, encrypt, decrypt};

@@ -7,7 +7,7 @@ use Rattle.blocks.specs.Number.{bigEndian}
 use Rattle.baksheesh.specs.Baksheesh.{constant}
 use Rattle.modes.specs.Cmac.{doubled}
 use Rattle.links.specs.Record.{counterBlock, recordOf}
-use Rattle.shares.specs.Sbox.{sboxShare}
+use Rattle.masking.specs.Sbox.{sboxShare}
 use Rattle.values.specs.Values.{rows, Hold}
 
 pub values-hold : Hold rows

@@ -8,11 +8,11 @@ use Rattle.blocks.specs.Bytes.{zeros}
 use Rattle.blocks.specs.Bits.{blockOf}
 use Rattle.baksheesh.specs.Baksheesh.{subCells, invSubCells, permBits, rotated}
 use Rattle.modes.specs.Cmac.{doubled}
-use Rattle.links.specs.Record.{counterBlock, recordOf}
-use Rattle.shares.specs.Shares.{sharesIn, flat}
-use Rattle.shares.specs.Sbox.{sboxShares}
-use Rattle.shares.specs.Call.{shareRound}
-use Rattle.calls.specs.Calls.{tapeNeed}
+use Rattle.links.specs.Record.{standard, counterBlock, recordOf}
+use Rattle.masking.specs.Shares.{sharesIn, flat}
+use Rattle.masking.specs.Sbox.{sboxShares}
+use Rattle.masking.specs.Call.{shareRound}
+use Rattle.calls.specs.Numbered.{tapeNeed}
 
 -- the block with only bit i set
 abbrev pub onlyBit : ℕ → List ℕ
@@ -56,7 +56,7 @@ rows =
     ∷ (doubled (0x80 ∷ replicate 15 0x00) is (replicate 15 0x00 ++ (0x87 ∷ [])))
     -- counter block 6 and a record of the link number 0x01020304 and the sequence number 5
     ∷ (counterBlock 0x01020304 5 6 is (1 ∷ 2 ∷ 3 ∷ 4 ∷ 0 ∷ 0 ∷ 0 ∷ 0 ∷ 0 ∷ 0 ∷ 0 ∷ 5 ∷ 0 ∷ 0 ∷ 0 ∷ 6 ∷ []))
-    ∷ (recordOf 0x01020304 5 (0xaa ∷ []) (replicate 16 0xbb) is (1 ∷ 2 ∷ 3 ∷ 4 ∷ 0 ∷ 0 ∷ 0 ∷ 5 ∷ 0xaa ∷ replicate 16 0xbb))
+    ∷ (recordOf standard 0x01020304 5 (0xaa ∷ []) (replicate 16 0xbb) is (1 ∷ 2 ∷ 3 ∷ 4 ∷ 0 ∷ 0 ∷ 0 ∷ 5 ∷ 0xaa ∷ replicate 16 0xbb))
     -- the tape need of a message of 0, 1, 16, 17 and 256 bytes
     ∷ ((tapeNeed 0 ∷ tapeNeed 1 ∷ tapeNeed 16 ∷ tapeNeed 17 ∷ tapeNeed 256 ∷ []) is (2304 ∷ 4544 ∷ 4544 ∷ 6784 ∷ 38144 ∷ []))
     ∷ []

@@ -16,7 +16,7 @@ use Rattle.words.proofs.Words.{words, packed-constant}
 
 -- the word that has each of the six bits of x at the place of its tap's cell
 abbrev placed : ℕ → ℕ
-placed x = number 32 (λ i. tapped taps x 0 (4 * i) ⊻ tapped taps x 0 (4 * i + 1) ⊻ tapped taps x 0 (4 * i + 2) ⊻ tapped taps x 0 (4 * i + 3))
+placed x = number 32 (λ i. let at = tapped taps x 0 in at (4 * i) ⊻ at (4 * i + 1) ⊻ at (4 * i + 2) ⊻ at (4 * i + 3))
 
 abbrev table : List ℕ
 table = map placed constants
@@ -38,7 +38,8 @@ unfolding bit
 bit-added s n j m h t i l =
     bit-xor (getD s j 0) _ i
     ∙ ap (λ (b : Bool). bit (getD s j 0) i ⊻ b)
-    (bit-and (getD table n 0) m i ∙ beq→eq _ _ (below 32 (right j m (getD table n 0) (getD constants n 0)) (below rounds (right-entry j m) t n h) i l))
+    (bit-and (getD table n 0) m i
+    ∙ beq→eq _ _ (below 32 (right j m (getD table n 0) (getD constants n 0)) (below rounds (right-entry j m) t n h) i l))
 
 pub adds-constant : (m₀ m₁ m₂ m₃ : ℕ) (s : List ℕ) (n : ℕ) → n < rounds
     → T (each rounds (right-entry 0 m₀)) → T (each rounds (right-entry 1 m₁))

@@ -1,4 +1,3 @@
 pub mod Words
 pub mod Moves
 pub mod Constants
-pub mod Bytes

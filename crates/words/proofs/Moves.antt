@@ -2,15 +2,14 @@
 use mathlib.Core.Path.{_≡_, sym, _∙_}
 use mathlib.Core.Bool.{Bool, _&&_}
 use mathlib.Core.List.{List, [], _∷_}
-use Prim.Native.Nat.{ℕ, _+_, _*_, _/_, _%_, _^_, _<_}
+use Prim.Native.Nat.{ℕ, _+_, _*_, _/_, _%_}
 use native.Mathlib.Omega.{arith}
 use mir.Syntax.{w32}
 use mir.Val.{Fits}
 use lib.Dec.{T, ltb}
 use lib.ListN.{getD}
-use Rattle.bits.specs.Swap.{swapmove}
 use Rattle.bits.proofs.Test.{each}
-use Rattle.bits.proofs.Linear.{Made, Places, own, input, equal, same, moved, swapped, swapped-places}
+use Rattle.bits.proofs.XorOfBits.{Made, Places, own, input, same, moved}
 use Rattle.blocks.specs.Bits.{rearranged}
 use Rattle.baksheesh.proofs.Steps.{inside, at-inside}
 use Rattle.words.specs.Words.{unpacked}
@@ -31,11 +30,3 @@ pub rearranges : {s : List ℕ} {a b c d : ℕ} {f g h k : ℕ → List ℕ} (p 
 rearranges {s} p a b c d t t₀ t₁ t₂ t₃ =
     words _ _ _ _ _ (moved a _ _ t₀) (moved b _ _ t₁) (moved c _ _ t₂) (moved d _ _ t₃)
     ∙ sym (packed-rearranged s p (at-inside p t))
-
--- one word, and what a delta swap makes of a word
-pub alone : {x : ℕ} → x < 2 ^ 32 → Made 32 (x ∷ []) x (own 0)
-alone {x} h = input 32 (x ∷ []) 0 (omega arith) h
-
-pub swap : {ws : List ℕ} {x y : ℕ} {f : ℕ → List ℕ} (m n : ℕ) → Made 32 ws x f → y ≡ swapmove x m n
-    → Made 32 ws y (swapped-places m n f)
-swap m n a e = equal (swapped m n a) e

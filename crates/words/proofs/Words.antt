@@ -63,7 +63,8 @@ module _ (s : List ℕ) where
       ⊕-bits (unpacked-block s) (unpacked-block t)
       ∙ by-cells _ _ (λ c j h l. ap₂ _⊻_ (bit-unpacked s c j h l) (bit-unpacked t c j h l))
 
-  pub packed-constant : (n : ℕ) → unpacked s ⊕ constant n ≡ cells (λ c j. bit (getD s j 0) c ⊻ tapped taps (getD constants n 0) 0 (4 * c + j))
+  pub packed-constant : (n : ℕ)
+      → unpacked s ⊕ constant n ≡ cells (λ c j. bit (getD s j 0) c ⊻ tapped taps (getD constants n 0) 0 (4 * c + j))
   unfolding constant
   packed-constant n =
       ⊕-bits (unpacked-block s) (isBlock _)

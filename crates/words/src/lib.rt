@@ -1,3 +1,2 @@
-// Blocks in packed form, four words of 32 bits, and the steps of a round on them, all but the S-box.
-pub mod form;
+// The steps of a round on a block in packed form, four words of 32 bits: all but the S-box.
 pub mod steps;

@@ -10,14 +10,17 @@ returns c =
     let p = c .before .before .before .before .before .before .before in
     let d = p .before .before .before .before .before in
     let e = d .before .before .before .before in
-    says-ciphertext (e .before .before .args .t1) (search needs) (e .before .before .args .n) _ _ _ _ _ _ _ (e .if1 .taken)
+    let args = e .before .before .args in
+    says-ciphertext (args .t1) (search needs) (args .n) _ _ _ _ _ _ _ (e .if1 .taken)
     (d .before .before .block-at .ensures) (d .block-at2 .ensures) (p .before .before .before .before .encrypt .ensures)
-    (p .before .before .before .digits .ensures) (search needs) (omega arith) (p .put-bytes .ensures) (c .before .before .put-bytes2 .ensures)
+    (p .before .before .before .digits .ensures) (search needs) (omega arith)
+    (p .put-bytes .ensures) (c .before .before .put-bytes2 .ensures)
 
 returns-2 : tie.Need-returns-2
 returns-2 c =
     let d = c .before .before .before .before .before in
-    says-length (d .before .before .args .t1) (search needs) (d .before .before .args .n) _ _ (d .if1 .left) (c .before .before .put-bytes3 .ensures)
+    let args = d .before .before .args in
+    says-length (args .t1) (search needs) (args .n) _ _ (d .if1 .left) (c .before .before .put-bytes3 .ensures)
 
 pub answer-spec : {M : Type 1} → statement M
 answer-spec =

@@ -28,7 +28,8 @@ same-length c = fill-length _ _ _ _ _ (c .before .loop .inv .1) (omega arith)
 returns : tie.Need-returns Inv-loop μ-loop
 returns c =
     fill-done _ _ _ _ _ _ (c .before .loop .inv .1) (omega arith)
-    ∙ ap (λ (z : List ℕ). put (c .before .before .args .at) z (c .before .before .args .out .now)) (tab-list (c .before .before .args .src .now))
+    ∙ ap (λ (z : List ℕ). put (c .before .before .args .at) z (c .before .before .args .out .now))
+    (tab-list (c .before .before .args .src .now))
 
 pub put-bytes-spec : {M : Type 1} → statement M
 put-bytes-spec =

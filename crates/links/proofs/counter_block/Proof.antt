@@ -1,20 +1,31 @@
--- `counter_block` meets its contract: three numbers written into zeros. Assumes nothing.
-use mathlib.Core.Path.{ap, _∙_}
+-- `counter_block` meets its contract: three numbers written one behind the other over a whole block. Assumes nothing.
+use mathlib.Core.Path.{refl, ap, _∙_}
+use native.Mathlib.Omega.{arith}
 use borrow.Author.Needs.{needs}
+use Rattle.blocks.specs.Number.{bigEndian}
 use Rattle.blocks.specs.Put.{put}
-use Rattle.links.proofs.Record.{counter-written}
+use Rattle.blocks.proofs.Numbers.{bigEndian-length}
+use Rattle.blocks.proofs.Parts.{put-three}
+use Rattle.links.specs.Record.{numberSize, indexSize, sequenceMost, counterBlock}
 use Rattle.links.proofs.counter_block.Statement.{statement}
 use Rattle.links.proofs.counter_block.Tie as tie
 
 returns : tie.Need-returns
+unfolding counterBlock
 returns c =
-    let third = c .before .put-number3 in
-    let second = c .before .before .before .before .put-number2 in
-    let first = c .before .before .before .before .before .before .before .put-number in
-    third .ensures ∙ ap (put 12 _) (second .ensures ∙ ap (put 8 _) (first .ensures)) ∙ counter-written _ _ _
+    let third = c .before in
+    let second = third .before .before .before in
+    let first = second .before .before .before in
+    let a = first .before .before .args in
+    let n = bigEndian-length numberSize (a .number) in
+    let s = bigEndian-length sequenceMost (a .sequence) in
+    let i = bigEndian-length indexSize (a .i) in
+    third .put-number3 .ensures ∙ ap (put _ _) (second .put-number2 .ensures ∙ ap (put _ _) (first .put-number .ensures))
+    ∙ put-three (bigEndian numberSize (a .number)) (bigEndian sequenceMost (a .sequence)) (bigEndian indexSize (a .i)) _ _ _
+    (omega arith) (omega arith) (omega arith)
 
 pub counter-block-spec : {M : Type 1} → statement M
 counter-block-spec =
     tie.close
     (tie.spec (λ c. search needs) (λ c κs. search needs) (λ c. search needs) (λ c κs. search needs) (λ c. search needs)
-    (λ c κs. search needs) returns)
+    (λ c. search needs) (λ c κs. search needs) returns)

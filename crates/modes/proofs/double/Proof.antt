@@ -56,5 +56,6 @@ pub double-spec : {M : Type 1} → statement M
 double-spec =
     tie.close
     (tie.spec Inv-loop μ-loop (λ c. (search needs, all-none _ _)) (λ c. search needs) (λ c. search needs) (λ c. search needs)
-    (λ c. search needs) (λ c. search needs) (λ c. search needs) loop-again (λ c. search needs) (λ c. search needs) (λ c. search needs) returns
+    (λ c. search needs) (λ c. search needs) (λ c. search needs) loop-again (λ c. search needs) (λ c. search needs)
+    (λ c. search needs) returns
     (λ c. search needs) returns-2)

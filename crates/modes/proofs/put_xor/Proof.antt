@@ -21,7 +21,9 @@ Inv-loop text j out₀ at key from n i₀ out i = (i ≤ n) × (out ≡ put at (
 abbrev μ-loop : tie.MeasureT-loop
 μ-loop text j out₀ at key from n i₀ out i = n - i
 
-size : (c : tie.At-loop Inv-loop μ-loop) → c .before .width .result ≡ length (piece (c .before .before .before .before .args .j) (c .before .before .before .before .args .text .now))
+size : (c : tie.At-loop Inv-loop μ-loop)
+    → c .before .width .result ≡ length
+    (piece (c .before .before .before .before .args .j) (c .before .before .before .before .args .text .now))
 size c = c .before .width .ensures ∙ sym (piece-length _ (c .before .before .before .before .args .text .now))
 
 kept : (c : tie.At-loop Inv-loop μ-loop) → length (c .loop .out) ≡ length (c .before .before .before .before .args .out .now)
@@ -43,11 +45,13 @@ returns c =
     let a = c .before .before .before .before .before .args in
     let xs : List ℕ = piece (a .j) (a .text .now) ⊕ a .t3 in
     let l : length (a .t3) ≡ 16 = search needs in
-    fill-done _ _ (length xs) _ _ _ (c .before .loop .inv .1) (omega (arith, size (c .before), ⊕-length (piece (a .j) (a .text .now)) (a .t3)))
+    fill-done _ _ (length xs) _ _ _ (c .before .loop .inv .1)
+    (omega (arith, size (c .before), ⊕-length (piece (a .j) (a .text .now)) (a .t3)))
     ∙ ap (λ (z : List ℕ). put (a .at) z (a .out .now)) (tab-list xs)
 
 pub put-xor-spec : {M : Type 1} → statement M
 put-xor-spec =
     tie.close
     (tie.spec Inv-loop μ-loop (λ c. search needs) (λ c κs. search needs) (λ c. (search needs, fill-none _ _ _)) (λ c. search needs)
-    (λ c. search needs) (λ c. search needs) (λ c. search needs) slice-write-out (λ c. search needs) (λ c. search needs) loop-again (λ c. kept (c .before)) returns)
+    (λ c. search needs) (λ c. search needs) (λ c. search needs) slice-write-out (λ c. search needs) (λ c. search needs) loop-again
+    (λ c. kept (c .before)) returns)

@@ -6,20 +6,24 @@ use native.Mathlib.Omega.{arith}
 use lib.ListN.{length}
 use borrow.Author.Needs.{needs}
 use Rattle.modes.specs.Pieces.{blockCount}
-use Rattle.shares.specs.Shares.{add}
-use Rattle.shares.specs.Tape.{at}
+use Rattle.masking.specs.Shares.{add}
+use Rattle.masking.specs.Tape.{at}
+use Rattle.masking.specs.Call.{encryption}
 use Rattle.shares.specs.Packed.{sharesOf}
-use Rattle.calls.specs.Calls.{mac}
-use Rattle.calls.specs.Sealed.{chain}
-use Rattle.path.specs.Walk.{Walked}
-use Rattle.calls.proofs.Calls.{call-mac}
-use Rattle.path.proofs.Walking.{walked-ready, walked-at, step-more, key-given, block-held, chain-none, chain-in, chain-more}
+use Rattle.runs.specs.Run.{outputOf}
+use Rattle.runs.specs.Walk.{Walked}
+use Rattle.runs.proofs.Walking.{walked-at}
+use Rattle.calls.specs.Numbered.{mac}
+use Rattle.calls.specs.Sealed.{sealingCalls, chain}
+use Rattle.calls.proofs.Numbered.{call-mac}
+use Rattle.path.proofs.Walking.{walked-ready, call-more, block-held, chain-none, chain-in, chain-more}
 use Rattle.path.proofs.chain_calls.Statement.{statement}
 use Rattle.path.proofs.chain_calls.Tie as tie
 
 abbrev Inv-loop : tie.InvT-loop
 Inv-loop link message tape key watch outs count w₀ j₀ w j =
-    (j ≤ count) × Walked link message (at tape) watch (count + 1 + j) w × (sharesOf (w .out) ≡ chain link message (at tape) j)
+    (j ≤ count) × Walked (sealingCalls link message) (at tape) watch (count + 1 + j) w
+    × (sharesOf (w .out) ≡ chain link message (outputOf encryption (sealingCalls link message) (at tape)) j)
 
 abbrev μ-loop : tie.MeasureT-loop
 μ-loop link message tape key watch outs count w₀ j₀ w j = count - j
@@ -30,15 +34,16 @@ loop-holds c =
     let W = s .pre .1 .1 .0 in
     let n : ℕ = blockCount (length (s .args .message .now)) in
     let e : n + 1 ≡ n + 1 + 0 = omega arith in
-    (omega arith, walked-at _ _ _ _ e (record { calls = W .calls; used = W .used; saw = W .saw }), chain-none _ _ _ (c .only .ensures))
+    (omega arith, walked-at _ _ _ e (record { calls = W .calls; used = W .used; saw = W .saw }), chain-none _ _ _ (c .only .ensures))
 
-before-end : (c : tie.In-loop Inv-loop μ-loop) → c .before .loop .j < blockCount (length (c .before .before .before .before .before .before .before .args .message .now))
+before-end : (c : tie.In-loop Inv-loop μ-loop)
+    → c .before .loop .j < blockCount (length (c .before .before .before .before .before .before .before .args .message .now))
 before-end c = omega arith
 
 mac-block-requires : tie.Need-mac-block-requires Inv-loop μ-loop
 mac-block-requires c κs =
     let s = c .before .before .before .before .before .before .before .before in
-    (s .pre .0 .left, omega (arith, before-end (c .before)), s .pre .0 .short, s .pre .1 .1 .1 .size)
+    ((s .pre .0 .left, omega (arith, before-end (c .before))), (s .pre .0 .short, s .pre .1 .1 .1 .size))
 
 step-requires : tie.Need-step-requires Inv-loop μ-loop
 step-requires c κs =
@@ -59,10 +64,12 @@ loop-again c =
     let n : ℕ = blockCount (length m) in
     let more = before-end (c .before .before .before .before) in
     let block = c .before .before .mac-block .ensures ∙ block-held x m M j (s .pre .1 .1 .1) (omega (arith, more)) in
-    let went = step-more x m M (s .args .watch) (n + 1 + j) (mac j) (call-mac n j) (omega arith) (s .pre .1 .0 ∙ key-given x m M (mac j))
-    (c .before .add-shares .ensures ∙ (λ i. add (l .loop .inv .2 i) (block i)) ∙ chain-in x m M j more) (l .loop .inv .1) (c .step .ensures) in
-    let e : n + 1 + j + 1 ≡ n + 1 + (j + 1) = omega arith in
-    (omega (arith, more), walked-at _ _ _ _ e (went .0), went .1 ∙ chain-more x m M j more)
+    let went = call-more x m M (mac j) (call-mac n j) (s .args .watch) (n + 1 + j) (omega arith) (s .pre .1 .0)
+    (c .before .add-shares .ensures ∙ (λ i. add (l .loop .inv .2 i) (block i)) ∙ chain-in x m M j (n + 2 + j - 1) (omega (arith, more))
+    (omega arith) more)
+    (l .loop .inv .1) (c .step .ensures) in
+    let e : n + 2 + j ≡ n + 1 + (j + 1) = omega arith in
+    (omega (arith, more), walked-at _ _ _ e (went .0), went .1 ∙ chain-more x m M j)
 
 returns : tie.Need-returns Inv-loop μ-loop
 returns c =
@@ -71,7 +78,10 @@ returns c =
     let n : ℕ = blockCount (length (a .message .now)) in
     let d : l .loop .j ≡ n = omega arith in
     let e : n + 1 + l .loop .j ≡ 2 * n + 1 = omega arith in
-    (walked-at _ _ _ _ e (l .loop .inv .1), l .loop .inv .2 ∙ ap (chain (a .link) (a .message .now) (at (a .tape .now))) d)
+    record {
+      walked = walked-at _ _ _ e (l .loop .inv .1);
+      chained = l .loop .inv .2 ∙ ap (chain (a .link) (a .message .now) _) d;
+    }
 
 pub chain-calls-spec : {M : Type 1} → statement M
 chain-calls-spec =

@@ -1,18 +1,22 @@
 -- `run` meets its contract: the masked keys, CTR's calls, the subkeys' call, the chain, and the last call. Assumes nothing.
 use mathlib.Core.Path.{_≡_, refl, sym, ap, _∙_}
-use Prim.Native.Nat.{ℕ, _+_, _*_}
+use Prim.Native.Nat.{ℕ, _+_, _*_, _-_}
 use native.Mathlib.Omega.{arith}
 use lib.ListN.{length}
 use borrow.Author.Needs.{needs}
 use Rattle.modes.specs.Pieces.{blockCount}
-use Rattle.shares.specs.Shares.{add, sharesIn}
-use Rattle.shares.specs.Tape.{at, pairSize, masksAt}
+use Rattle.masking.specs.Shares.{add, sharesIn}
+use Rattle.masking.specs.Tape.{at, pairSize, masksAt}
+use Rattle.masking.specs.Call.{encryption}
 use Rattle.shares.specs.Packed.{sharesOf}
-use Rattle.calls.specs.Calls.{sub, mac, callCount}
-use Rattle.calls.specs.Sealed.{run, inputOf}
-use Rattle.path.specs.Walk.{Walked, OutsHold}
-use Rattle.calls.proofs.Calls.{call-sub, call-mac}
-use Rattle.path.proofs.Walking.{walked-none, walked-at, walked-ready, step-more, key-given, sub-in, outs-hold, block-held, subkey-made, last-in, tag-made}
+use Rattle.runs.specs.Run.{outputOf}
+use Rattle.runs.specs.Walk.{Walked}
+use Rattle.runs.proofs.Walking.{walked-none, walked-at}
+use Rattle.calls.specs.Numbered.{sub, mac, callNumber, callCount}
+use Rattle.calls.specs.Sealed.{sealingCalls}
+use Rattle.calls.proofs.Numbered.{call-sub, call-mac}
+use Rattle.path.specs.Path.{OutsHold}
+use Rattle.path.proofs.Walking.{walked-ready, call-more, sub-in, block-held, subkey-made, last-in}
 use Rattle.path.proofs.run.Statement.{statement}
 use Rattle.path.proofs.run.Tie as tie
 
@@ -36,32 +40,29 @@ ctr-calls-requires : tie.Need-ctr-calls-requires
 ctr-calls-requires c κs =
     let k = c .before .before .before .before in
     let used : k .mask-key2 .result .used ≡ 2 * pairSize = omega (arith, k .mask-key2 .ensures .1, k .before .mask-key .ensures .1) in
-    (start k .pre .0, (k .before .mask-key .ensures .0, (walked-none _ _ _ _ refl used, start k .pre .1)))
+    (start k .pre .0, (k .before .mask-key .ensures .0, (walked-none _ _ _ refl (omega (arith, used)), start k .pre .1)))
 
 -- CMAC's key is masked with the second pair
 masked : (k : tie.After-mask-key2) → let a = start k .args in
     sharesOf (k .mask-key2 .result .key) ≡ add (sharesIn (a .link .km)) (masksAt (at (a .tape .now)) pairSize)
 masked k =
     let a = start k .args in
-    k .mask-key2 .ensures .0 ∙ ap (λ (p : ℕ). add (sharesIn (a .link .km)) (masksAt (at (a .tape .now)) p)) (k .before .mask-key .ensures .1)
-
-held : (o : tie.After-ctr-calls) → let a = start (keyed o) .args in
-    OutsHold (a .link) (a .message .now) (at (a .tape .now)) (o .ctr-calls .last .1 .1 .1 .1 .1 .1 .0)
-held o =
-    let s = start (keyed o) in
-    outs-hold _ _ _ (s .args .outs .now) _ (o .ctr-calls .ensures .1) (s .pre .1) (s .pre .0 .short)
+    k .mask-key2 .ensures .0 ∙ ap (λ (p : ℕ). add (sharesIn (a .link .km)) (masksAt (at (a .tape .now)) p))
+    (k .before .mask-key .ensures .1)
 
 step-requires : tie.Need-step-requires
 step-requires c κs =
     let o = c .before .before in
     let s = start (keyed o) in
-    walked-ready (s .args .link) (s .args .message .now) (s .args .tape .now) (s .args .watch) _ _ (s .pre .0) (o .ctr-calls .ensures .0) (omega arith)
+    walked-ready (s .args .link) (s .args .message .now) (s .args .tape .now) (s .args .watch) _ _ (s .pre .0)
+    (o .ctr-calls .ensures .walked) (omega arith)
 
 -- behind the subkeys' call
 zeroed : (z : tie.After-step) → let a = start (keyed (crypted z)) .args in
-    let M = at (a .tape .now) in
-    Walked (a .link) (a .message .now) M (a .watch) (blockCount (length (a .message .now)) + 1) (z .step .result)
-    × (sharesOf (z .step .result .out) ≡ run (a .link) (a .message .now) M sub (inputOf (a .link) (a .message .now) M sub))
+    let n = blockCount (length (a .message .now)) in
+    let R = sealingCalls (a .link) (a .message .now) in
+    Walked R (at (a .tape .now)) (a .watch) (n + 1) (z .step .result)
+    × (sharesOf (z .step .result .out) ≡ outputOf encryption R (at (a .tape .now)) (n + 1))
 zeroed z =
     let o = crypted z in
     let a = start (keyed o) .args in
@@ -69,31 +70,32 @@ zeroed z =
     let m = a .message .now in
     let M = at (a .tape .now) in
     let n = blockCount (length m) in
-    step-more x m M (a .watch) n sub (call-sub n) refl (masked (keyed o) ∙ key-given x m M sub) (sub-in x m M (o .before .before .only .ensures))
-    (o .ctr-calls .ensures .0) (z .step .ensures)
+    call-more x m M sub (call-sub n) (a .watch) n refl (masked (keyed o)) (sub-in x m M _ (o .before .before .only .ensures))
+    (o .ctr-calls .ensures .walked) (z .step .ensures)
 
 chain-calls-requires : tie.Need-chain-calls-requires
 chain-calls-requires c κs =
     let z = c .before .before .before in
     let o = crypted z in
-    (start (keyed o) .pre .0, (masked (keyed o), (zeroed z .0, held o)))
+    (start (keyed o) .pre .0, (masked (keyed o), (zeroed z .0, o .ctr-calls .ensures .held)))
 
 mac-block-requires : tie.Need-mac-block-requires
 mac-block-requires c κs =
     let o = crypted (zero (c .before .before)) in
     let s = start (keyed o) in
-    (s .pre .0 .left, omega arith, s .pre .0 .short, held o .size)
+    ((s .pre .0 .left, omega arith), (s .pre .0 .short, o .ctr-calls .ensures .held .size))
 
 step-requires-2 : tie.Need-step-requires-2
 step-requires-2 c κs =
     let d = c .before .before .before .before .before in
     let s = start (keyed (crypted (zero d))) in
-    walked-ready (s .args .link) (s .args .message .now) (s .args .tape .now) (s .args .watch) _ _ (s .pre .0) (d .chain-calls .ensures .0) (omega arith)
+    walked-ready (s .args .link) (s .args .message .now) (s .args .tape .now) (s .args .watch) _ _ (s .pre .0)
+    (d .chain-calls .ensures .walked) (omega arith)
 
 same-length : tie.Need-same-length
 same-length c =
     let o = crypted (zero (c .before .before .before .before .before .before)) in
-    held o .size ∙ sym (start (keyed o) .pre .1)
+    o .ctr-calls .ensures .held .size ∙ sym (start (keyed o) .pre .1)
 
 returns : tie.Need-returns
 returns c =
@@ -105,17 +107,20 @@ returns c =
     let m = a .message .now in
     let M = at (a .tape .now) in
     let n : ℕ = blockCount (length m) in
-    let last = c .before .before .before .mac-block .ensures ∙ block-held x m M n (held o) (omega arith) in
+    let held = o .ctr-calls .ensures .held in
+    let last = c .before .before .before .mac-block .ensures ∙ block-held x m M n held (omega arith) in
     let subkey = d .before .before .last-key .ensures ∙ subkey-made x m M (zeroed z .1) in
     let input = c .before .add-shares2 .ensures
-    ∙ (λ i. add (d .chain-calls .ensures .1 i) ((c .before .before .add-shares .ensures ∙ λ i. add (subkey i) (last i)) i)) ∙ last-in x m M in
-    let went = step-more x m M (a .watch) (2 * n + 1) (mac n) (call-mac n n) (omega arith) (masked (keyed o) ∙ key-given x m M (mac n)) input
-    (d .chain-calls .ensures .0) (c .step2 .ensures) in
-    let e : 2 * n + 1 + 1 ≡ callCount n = omega arith in
-    (walked-at _ _ _ _ e (went .0), (went .1 ∙ tag-made x m M, held o))
+    ∙ (λ i. add (d .chain-calls .ensures .chained i) ((c .before .before .add-shares .ensures ∙ λ i. add (subkey i) (last i)) i))
+    ∙ last-in x m M n (n + 2 + n - 1) (omega arith) (omega arith) refl in
+    let went = call-more x m M (mac n) (call-mac n n) (a .watch) (2 * n + 1) (omega arith) (masked (keyed o)) input
+    (d .chain-calls .ensures .walked) (c .step2 .ensures) in
+    let e : n + 2 + n ≡ callCount n = omega arith in
+    record { walked = walked-at _ _ _ e (went .0); tag = went .1 ∙ ap (outputOf encryption (sealingCalls x m) M) e; held = held }
 
 pub run-spec : {M : Type 1} → statement M
 run-spec =
     tie.close
     (tie.spec (λ c κs. search needs) (λ c κs. search needs) (λ c κs. search needs) ctr-calls-requires step-requires (λ c κs. search needs)
-    chain-calls-requires (λ c. search needs) mac-block-requires (λ c κs. search needs) (λ c κs. search needs) step-requires-2 same-length returns)
+    chain-calls-requires (λ c. search needs) mac-block-requires (λ c κs. search needs)
+    (λ c κs. search needs) step-requires-2 same-length returns)

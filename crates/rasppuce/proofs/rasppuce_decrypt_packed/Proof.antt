@@ -6,7 +6,7 @@ use Rattle.rasppuce.proofs.rasppuce_decrypt_packed.Statement.{statement
 use Rattle.rasppuce.proofs.rasppuce_decrypt_packed.Tie as tie
 
 returns : tie.Need-returns
-returns c = let e = c .before .before .before .decrypt-packed .ensures in (c .block-number .ensures ∙ ap numberOf (e .0), e .1)
+returns c = let e = c .before .before .before .call .ensures in (c .number .ensures ∙ ap numberOf (e .0), e .1)
 
 pub rasppuce-decrypt-packed-spec : {M : Type 1} → statement M
 rasppuce-decrypt-packed-spec = tie.close (tie.spec (λ c κs. search needs) (λ c κs. search needs) (λ c. search needs) returns)

@@ -1,7 +1,7 @@
 -- `has_lane` meets its contract, test by test. Assumes nothing.
 use native.Mathlib.Omega.{arith}
 use borrow.Author.Needs.{needs}
-use Rattle.sealing.proofs.Reporting.{no-call, high-call, no-round, high-round, any-lane}
+use Rattle.sealing.proofs.Lanes.{no-call, high-call, no-round, high-round, any-lane}
 use Rattle.sealing.proofs.has_lane.Statement.{statement}
 use Rattle.sealing.proofs.has_lane.Tie as tie
 
@@ -12,13 +12,20 @@ returns-2 : tie.Need-returns-2
 returns-2 c = let a = c .before .before .args in high-call (a .n) (a .call) (a .round) (a .lane) (search needs) (omega arith)
 
 returns-3 : tie.Need-returns-3
-returns-3 c = let a = c .before .before .before .args in no-round (a .n) (a .call) (a .round) (a .lane) (search needs) (omega arith) (search needs)
+returns-3 c =
+    let a = c .before .before .before .args in
+    no-round (a .n) (a .call) (a .round) (a .lane) (search needs) (omega arith) (search needs)
 
 returns-4 : tie.Need-returns-4
-returns-4 c = let a = c .before .before .before .before .args in high-round (a .n) (a .call) (a .round) (a .lane) (search needs) (omega arith) (search needs) (omega arith)
+returns-4 c =
+    let a = c .before .before .before .before .args in
+    high-round (a .n) (a .call) (a .round) (a .lane) (search needs) (omega arith) (search needs) (omega arith)
 
 returns-5 : tie.Need-returns-5
-returns-5 c = let a = c .before .before .before .before .args in any-lane (a .n) (a .call) (a .round) (a .lane) (search needs) (omega arith) (search needs) (omega arith)
+returns-5 c =
+    let a = c .before .before .before .before .args in
+    any-lane (a .n) (a .call) (a .round) (a .lane) (search needs) (omega arith) (search needs) (omega arith)
 
 pub has-lane-spec : {M : Type 1} → statement M
-has-lane-spec = tie.close (tie.spec returns (λ c. search needs) (λ c. search needs) (λ c. search needs) returns-2 returns-3 returns-4 returns-5)
+has-lane-spec = tie.close
+    (tie.spec returns (λ c. search needs) (λ c. search needs) (λ c. search needs) returns-2 returns-3 returns-4 returns-5)

@@ -1,58 +1,91 @@
--- `report` meets its contract: each return by the law of the tests that led there. Assumes nothing.
-use mathlib.Core.Path.{refl}
+-- `report` meets its contract: each refusal in its place, and the lane. Assumes nothing.
+use mathlib.Core.Path.{_≡_, refl, sym, ap, _∙_}
+use mathlib.Core.Bool.{not}
+use mathlib.Core.List.{List}
+use Prim.Native.Nat.{ℕ}
 use native.Mathlib.Omega.{arith}
-use lib.ListN.{length}
+use lib.ListN.{length, take}
 use borrow.Author.Needs.{needs}
-use Rattle.calls.proofs.Accepted.{Sealable}
-use Rattle.sealing.proofs.Refusals.{sealable}
-use Rattle.sealing.proofs.Reporting.{Lane, not-keyed, numbers-used, long-message, short-tape, bad-lane, short-output, bounds, shows}
+use Rattle.blocks.specs.Put.{put}
+use Rattle.answers.specs.Answer.{Cause, NoneOf}
+use Rattle.answers.proofs.First.{none-both, leaves-one, tests}
+use Rattle.calls.specs.Entry.{reportCauses}
+use Rattle.sealing.proofs.Answers.{report-refused, report-done}
+use Rattle.sealing.proofs.Sealed.{lane-shown}
+use Rattle.sealing.proofs.Lanes.{Lane, bounds}
 use Rattle.sealing.proofs.report.Statement.{statement}
 use Rattle.sealing.proofs.report.Tie as tie
 
 returns : tie.Need-returns
-returns c = not-keyed _ _ _ _ _ _ _ (search needs)
+returns c = leaves-one (report-refused _ _ _ _ _ _ _ 0 tt (search needs)) refl _ _ refl
 
 returns-2 : tie.Need-returns-2
-returns-2 c = numbers-used _ _ _ _ _ _ _ (search needs) (search needs)
+returns-2 c = leaves-one (report-refused _ _ _ _ _ _ _ 1 (search needs, tt) (omega (arith, tests))) refl _ _ refl
 
 returns-3 : tie.Need-returns-3
-returns-3 c = long-message _ _ _ _ _ _ _ (search needs) (search needs) (search needs)
+returns-3 c = leaves-one (report-refused _ _ _ _ _ _ _ 2 (search needs, omega (arith, tests)) (omega (arith, tests))) refl _ _ refl
 
 returns-4 : tie.Need-returns-4
-returns-4 c = short-tape _ _ _ _ _ _ _ (search needs) (search needs) (search needs) (omega (arith, c .before .tape-need .ensures))
-
--- what the tests before the lane's show
-ready : (c : tie.Else4) → let a = c .before .before .before .before .before .before .before .before .before .before .args in Sealable (a .link) (a .message .now) (a .tape .now)
-ready c = sealable _ _ _ (search needs) (search needs) (search needs) (omega (arith, c .before .tape-need .ensures))
+returns-4 c =
+    let need = c .before .tape-need .ensures in
+    leaves-one (report-refused _ _ _ _ _ _ _ 3 (search needs, omega (arith, tests)) (omega (arith, tests))) refl _ _ refl
 
 returns-5 : tie.Need-returns-5
-returns-5 c = bad-lane _ _ _ _ _ _ _ (ready (c .before .before)) _ (c .before .has-lane .ensures) (search needs)
+returns-5 c =
+    let need = c .before .before .before .tape-need .ensures in
+    leaves-one (report-refused _ _ _ _ _ _ _ 4 (search needs, omega (arith, tests))
+    (sym (ap not (c .before .has-lane .ensures)) ∙ c .if5 .taken))
+    refl _ _ refl
+
+-- from behind the lane's test to the start
+abbrev start : tie.Else5 → tie.Start
+start c = c .before .before .before .before .before .before .before .before .before .before .before .before
+
+-- the causes up to the lane's
+abbrev causes : tie.Else5 → List Cause
+causes c =
+    let a = start c .args in
+    reportCauses (a .link) (a .message .now) (a .tape .now) (a .call) (a .round) (a .lane) (length (a .out .now))
+
+passed : (c : tie.Else5) → NoneOf (take 5 (causes c))
+passed c =
+    let need = c .before .before .before .tape-need .ensures in
+    let has = sym (ap not (c .before .has-lane .ensures)) ∙ c .if5 .left in
+    none-both 4 (take 5 (causes c)) (search needs, omega (arith, tests)) (has, tt)
 
 returns-6 : tie.Need-returns-6
-returns-6 c = short-output _ _ _ _ _ _ _ (ready (c .before .before .before)) _ (c .before .before .has-lane .ensures) (search needs) (search needs)
+returns-6 c = leaves-one (report-refused _ _ _ _ _ _ _ 5 (passed (c .before)) (omega (arith, tests))) refl _ _ refl
+
+none : (c : tie.Else6) → NoneOf (causes (c .before))
+none c = none-both 5 (causes (c .before)) (passed (c .before)) (omega (arith, tests))
 
 -- the lane is one
-lane : (c : tie.Else5) → let a = c .before .before .before .before .before .before .before .before .before .before .before .before .args in
-    Lane (length (a .message .now)) (a .call) (a .round) (a .lane)
+lane : (c : tie.Else5) → let a = start c .args in Lane (length (a .message .now)) (a .call) (a .round) (a .lane)
 lane c = bounds _ _ _ _ _ (c .before .has-lane .ensures) (search needs)
 
 run-requires : tie.Need-run-requires
 run-requires c κs =
-    let S = ready (c .before .before .before .before) in
-    let L = lane (c .before .before) in
-    (record { left = omega (arith, S .left); short = S .small; long = S .long; low = L .round-low; high = L .round-high }, refl)
+    let tested = c .before .before in
+    let need = tested .before .before .before .tape-need .ensures in
+    let L = lane tested in
+    (record { left = omega arith; short = omega arith; long = omega arith; low = L .round-low; high = L .round-high }, refl)
 
 returns-7 : tie.Need-returns-7
 returns-7 c =
     let written = c .before .before in
     let shown = written .before .before .before in
-    let walked = shown .before .before .before in
-    let tested = walked .before .before .before .before in
-    shows _ _ _ _ _ _ _ (ready (tested .before)) _ (tested .has-lane .ensures) (search needs) (search needs)
-    _ (walked .run .result) _ _ refl refl (walked .run .ensures .0) (shown .lane-of .ensures) (written .put-bytes .ensures)
+    let run = shown .before .before .before in
+    let tested = run .before .before in
+    let L = lane (tested .before) in
+    let a = start (tested .before) .args in
+    leaves-one (report-done _ _ _ _ _ _ _ (none tested)) refl _ _
+    (written .put-bytes .ensures
+    ∙ ap (λ (z : List ℕ). put 0 z (a .out .now))
+    (shown .lane-of .ensures ∙ lane-shown _ _ _ _ _ _ (run .run .ensures) (a .lane) (L .call-low) (L .call-high)))
 
 pub report-spec : {M : Type 1} → statement M
 report-spec =
     tie.close
     (tie.spec returns returns-2 returns-3 (λ c κs. search needs) returns-4 (λ c κs. search needs) returns-5 returns-6 (λ c. search needs)
-    run-requires (λ c κs. lane (c .before .before .before .before .before) .lane-low) (λ c. search needs) (λ c κs. search needs) (λ c. search needs) returns-7)
+    run-requires (λ c κs. lane (c .before .before .before .before .before) .lane-low) (λ c. search needs) (λ c κs. search needs)
+    (λ c. search needs) returns-7)

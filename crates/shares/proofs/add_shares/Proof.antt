@@ -1,6 +1,6 @@
 -- `add_shares` meets its contract, share by share. Assumes nothing.
 use borrow.Author.Needs.{needs}
-use Rattle.shares.proofs.Packed.{shares-same}
+use Rattle.masking.proofs.Shape.{shares-same}
 use Rattle.shares.proofs.add_shares.Statement.{statement}
 use Rattle.shares.proofs.add_shares.Tie as tie
 

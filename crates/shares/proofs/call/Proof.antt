@@ -3,8 +3,8 @@ use Prim.Native.Nat.{_+_, _-_, _*_, _≤_}
 use native.Mathlib.Omega.{arith}
 use lib.ListN.{length}
 use borrow.Author.Needs.{needs}
-use Rattle.baksheesh.specs.Baksheesh.{rounds}
-use Rattle.shares.specs.Tape.{at, pairSize}
+use Rattle.masking.specs.Tape.{at, pairSize}
+use Rattle.masking.specs.Call.{pairCount}
 use Rattle.shares.specs.Packed.{sharesOf}
 use Rattle.shares.proofs.Onward.{packed-blocks, call-parts}
 use Rattle.shares.proofs.call.Statement.{statement}
@@ -20,7 +20,8 @@ run-rounds-requires-2 : tie.Need-run-rounds-requires-2
 run-rounds-requires-2 c κs =
     let r = c .before .before .before in
     let s = r .before .before .before in
-    let fits : r .run-rounds .result .used + pairSize * (rounds - s .args .n) ≤ length (s .args .tape .now) = omega (arith, s .pre, r .run-rounds .ensures .used) in
+    let fits : r .run-rounds .result .used + pairSize * (pairCount - s .args .n) ≤ length (s .args .tape .now) =
+    omega (arith, s .pre, r .run-rounds .ensures .used) in
     (s .pre .1, omega arith, fits)
 
 returns : tie.Need-returns
@@ -30,8 +31,8 @@ returns c =
     let a = s .args in
     let f = r .run-rounds .ensures in
     let l = c .before .run-rounds2 .ensures in
-    let parts = call-parts (sharesOf (a .key)) (sharesOf (a .input)) (packed-blocks (a .key)) (at (a .tape .now)) (a .used) (a .n) _ _ _ _ _ _ (s .pre .0) (s .pre .1)
-    (r .before .add-shares .ensures) (f .masked) (f .state) (f .key) (f .used) (l .state) in
+    let parts = call-parts (sharesOf (a .key)) (sharesOf (a .input)) (packed-blocks (a .key)) (at (a .tape .now)) (a .used) (a .n)
+    _ _ _ _ _ _ (s .pre .0) (s .pre .1) (r .before .add-shares .ensures) (f .masked) (f .state) (f .key) (f .used) (l .state) in
     record { out = parts .0; state = parts .1; key = parts .2; used = omega (arith, s .pre, f .used, l .used) }
 
 pub call-spec : {M : Type 1} → statement M

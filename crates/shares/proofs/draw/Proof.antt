@@ -1,7 +1,7 @@
 -- `draw` meets its contract. Assumes nothing.
 use mathlib.Core.Path.{refl, _∙_}
 use borrow.Author.Needs.{needs}
-use Rattle.shares.specs.Tape.{at}
+use Rattle.masking.specs.Tape.{at}
 use Rattle.shares.proofs.draw.Statement.{statement}
 use Rattle.shares.proofs.draw.Tie as tie
 

@@ -6,21 +6,26 @@ use borrow.Author.Needs.{needs}
 use Rattle.blocks.specs.Bytes.{_⊕_}
 use Rattle.baksheesh.specs.Baksheesh.{permBits}
 use Rattle.words.specs.Words.{unpacked}
-use Rattle.shares.specs.Sbox.{sboxShare}
-use Rattle.shares.proofs.Packed.{lane-first, lane-other}
+use Rattle.masking.specs.Sbox.{sboxShare}
+use Rattle.shares.proofs.Packed.{round-first, round-other}
 use Rattle.shares.proofs.lane_round.Statement.{statement}
 use Rattle.shares.proofs.lane_round.Tie as tie
 
-moved : (c : tie.After-perm-bits) → let a = c .before .before .args in unpacked (c .perm-bits .result) ≡ permBits (sboxShare (a .first) (unpacked (a .a)) (unpacked (a .b)))
+moved : (c : tie.After-perm-bits) → let a = c .before .before .args in
+    unpacked (c .perm-bits .result) ≡ permBits (sboxShare (a .first) (unpacked (a .a)) (unpacked (a .b)))
 moved c = c .perm-bits .ensures ∙ ap permBits (c .before .sbox-share .ensures)
 
 returns : tie.Need-returns
-returns c = lane-first _ _ _ _ _ _ _ (moved (c .before .before .before)) (c .before .before .if1 .taken) (c .add .ensures ∙ ap (λ (z : List ℕ). z ⊕ unpacked (c .before .before .before .before .before .args .k)) (c .before .add-constants .ensures))
+returns c =
+    let k = c .before .before .before .before .before .args .k in
+    round-first _ _ _ _ _ _ _ (moved (c .before .before .before)) (c .before .before .if1 .taken)
+    (c .add .ensures ∙ ap (λ (z : List ℕ). z ⊕ unpacked k) (c .before .add-constants .ensures))
 
 returns-2 : tie.Need-returns-2
-returns-2 c = lane-other _ _ _ _ _ _ _ (moved (c .before .before)) (c .before .if1 .left) (c .add2 .ensures)
+returns-2 c = round-other _ _ _ _ _ _ _ (moved (c .before .before)) (c .before .if1 .left) (c .add2 .ensures)
 
 pub lane-round-spec : {M : Type 1} → statement M
 lane-round-spec =
     tie.close
-    (tie.spec (λ c κs. search needs) (λ c κs. search needs) (λ c κs. search needs) (λ c κs. search needs) (λ c κs. search needs) returns returns-2)
+    (tie.spec (λ c κs. search needs) (λ c κs. search needs) (λ c κs. search needs) (λ c κs. search needs) (λ c κs. search needs)
+    returns returns-2)

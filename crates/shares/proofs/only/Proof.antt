@@ -1,6 +1,7 @@
 -- `only` meets its contract: words of zeros are the block of zeros. Assumes nothing.
 use mathlib.Core.Path.{refl}
-use Rattle.shares.proofs.Packed.{shares-same, zero-words}
+use Rattle.masking.proofs.Shape.{shares-same}
+use Rattle.shares.proofs.Packed.{zero-words}
 use Rattle.shares.proofs.only.Statement.{statement}
 use Rattle.shares.proofs.only.Tie as tie
 

@@ -4,8 +4,8 @@ use Prim.Native.Nat.{ℕ, suc, _+_, _-_, _*_, _≤_}
 use native.Mathlib.Omega.{arith}
 use borrow.Author.Needs.{needs}
 use Rattle.baksheesh.specs.Baksheesh.{rotated}
-use Rattle.shares.specs.Shares.{each}
-use Rattle.shares.specs.Tape.{at, pairSize}
+use Rattle.masking.specs.Shares.{each}
+use Rattle.masking.specs.Tape.{at, pairSize}
 use Rattle.shares.specs.Packed.{sharesOf, onward, met}
 use Rattle.shares.proofs.Onward.{packed-blocks, turned-none, onward-none, met-none, onward-more}
 use Rattle.shares.proofs.run_rounds.Statement.{statement}
@@ -43,8 +43,8 @@ loop-again c =
     let here : l .read ≡ a .used + pairSize * n = l .inv .5 in
     let more : suc n ≡ l .n + 1 - a .from = omega arith in
     let went = onward-more M (a .used) (a .from) (sharesOf (a .s)) (sharesOf (a .k)) n (l .n) _ _ _ _ _ _ _ (l .inv .3) (l .inv .4)
-    (u .draw .ensures .0 ∙ ap M here) (v .draw2 .ensures .0 ∙ ap M (u .draw .ensures .1 ∙ ap (λ (p : ℕ). p + 16) here)) (c .before .mask .ensures) (c .before .before .rotate-shares .ensures)
-    (omega arith) (c .share-round .ensures) in (
+    (u .draw .ensures .0 ∙ ap M here) (v .draw2 .ensures .0 ∙ ap M (u .draw .ensures .1 ∙ ap (λ (p : ℕ). p + 16) here))
+    (c .before .mask .ensures) (c .before .before .rotate-shares .ensures) (omega arith) (c .share-round .ensures) in (
       omega arith,
       omega arith,
       went .0 ∙ ap (met M (a .used) (a .from) (sharesOf (a .s)) (sharesOf (a .k))) more,
@@ -68,5 +68,5 @@ returns c =
 pub run-rounds-spec : {M : Type 1} → statement M
 run-rounds-spec =
     tie.close
-    (tie.spec Inv-loop μ-loop loop-holds (λ c κs. omega arith) (λ c κs. omega (arith, c .draw .ensures .1)) (λ c κs. search needs) (λ c κs. search needs) (λ c κs. omega arith)
-    (λ c. omega arith) (λ c. omega arith) loop-again returns)
+    (tie.spec Inv-loop μ-loop loop-holds (λ c κs. omega arith) (λ c κs. omega (arith, c .draw .ensures .1)) (λ c κs. search needs)
+    (λ c κs. search needs) (λ c κs. omega arith) (λ c. omega arith) (λ c. omega arith) loop-again returns)

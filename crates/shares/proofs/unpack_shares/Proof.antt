@@ -18,13 +18,14 @@ returns c =
     let a = unpacked-block (s .a) .size in
     let b = unpacked-block (s .b) .size in
     let d = unpacked-block (s .c) .size in
-    third .put-bytes3 .ensures
-    ∙ (λ i. put 32 (third .before .before .before .unpack3 .ensures i)
-    ((second .put-bytes2 .ensures ∙ λ i. put 16 (second .before .before .before .unpack2 .ensures i) ((first .put-bytes .ensures ∙ λ i. put 0 (first .before .before .before .unpack .ensures i) (replicate 48 0)) i)) i))
+    let one = first .put-bytes .ensures ∙ λ i. put 0 (first .before .before .before .unpack .ensures i) (replicate 48 0) in
+    let two = second .put-bytes2 .ensures ∙ λ i. put 16 (second .before .before .before .unpack2 .ensures i) (one i) in
+    third .put-bytes3 .ensures ∙ (λ i. put 32 (third .before .before .before .unpack3 .ensures i) (two i))
     ∙ put-three _ _ _ _ 16 32 (sym a) (omega arith) (omega arith)
 
 pub unpack-shares-spec : {M : Type 1} → statement M
 unpack-shares-spec =
     tie.close
-    (tie.spec (λ c κs. search needs) (λ c. search needs) (λ c. search needs) (λ c κs. search needs) (λ c κs. search needs) (λ c. search needs)
-    (λ c. search needs) (λ c κs. search needs) (λ c κs. search needs) (λ c. search needs) (λ c. search needs) (λ c κs. search needs) returns)
+    (tie.spec (λ c κs. search needs) (λ c. search needs) (λ c. search needs) (λ c κs. search needs) (λ c κs. search needs)
+    (λ c. search needs) (λ c. search needs) (λ c κs. search needs) (λ c κs. search needs) (λ c. search needs)
+    (λ c. search needs) (λ c κs. search needs) returns)

@@ -1,4 +1,5 @@
--- `decrypt` meets its contract. With n rounds left, the key is rotated by n, and what lies n rounds back is what lay all rounds back. Assumes nothing.
+-- `decrypt` meets its contract. With n rounds left, the key is rotated by n, and what lies n rounds back
+-- is what lay all rounds back. Assumes nothing.
 use borrow.Author.Needs.{needs}
 use mathlib.Core.Path.{_≡_, refl, sym, ap, _∙_}
 use mathlib.Core.List.{List}
@@ -29,7 +30,8 @@ loop-again c =
     let k = h .inv .1 ∙ ap (λ (j : ℕ). rotated j key) n in (
       omega arith,
       c .rotate2 .ensures ∙ ap (rotated 127) k ∙ rotated-back m key,
-      (λ i. before m key ((c .before .inv-round .ensures ∙ λ i. invRound m (k i) (h .s)) i)) ∙ ap (λ (j : ℕ). before j key (h .s)) (sym n) ∙ h .inv .2,
+      (λ i. before m key ((c .before .inv-round .ensures ∙ λ i. invRound m (k i) (h .s)) i))
+          ∙ ap (λ (j : ℕ). before j key (h .s)) (sym n) ∙ h .inv .2,
     )
 
 none-back : (k x : List ℕ) → x ≡ before 0 k x
@@ -47,5 +49,5 @@ returns c =
 pub decrypt-spec : {M : Type 1} → statement M
 decrypt-spec =
     tie.close
-    (tie.spec Inv-loop μ-loop (λ c κs. search needs) loop-holds (λ c. omega arith) (λ c κs. omega arith) (λ c κs. search needs) (λ c. omega arith)
-    loop-again (λ c κs. search needs) returns)
+    (tie.spec Inv-loop μ-loop (λ c κs. search needs) loop-holds (λ c. omega arith) (λ c κs. omega arith) (λ c κs. search needs)
+    (λ c. omega arith) loop-again (λ c κs. search needs) returns)

@@ -3,7 +3,7 @@ use borrow.Author.Needs.{needs}
 use mir.Syntax.{w8}
 use mir.Val.{Fits}
 use mathlib.Core.Path.{_≡_, refl, sym, ap, _∙_}
-use Prim.Native.Nat.{_-_, _≤_}
+use Prim.Native.Nat.{ℕ, _-_, _≤_}
 use native.Mathlib.Omega.{arith}
 use native.Mathlib.Numerals.{add-one}
 use lib.ListN.{getD}
@@ -22,7 +22,8 @@ loop-holds : tie.Need-loop-holds Inv-loop μ-loop
 unfolding after
 loop-holds c =
     let key = c .before .args .key in
-    (omega arith, sym (rotated-zero key (record { size = search needs; bytes = λ i. let f : Fits w8 (getD key i 0) = search needs in f .fits })), refl)
+    let fits : (i : ℕ) → Fits w8 (getD key i 0) = λ i. search needs in
+    (omega arith, sym (rotated-zero key (record { size = search needs; bytes = λ i. fits i .fits })), refl)
 
 loop-again : tie.Need-loop-again Inv-loop μ-loop
 unfolding after
@@ -41,4 +42,5 @@ returns c =
 pub encrypt-spec : {M : Type 1} → statement M
 encrypt-spec =
     tie.close
-    (tie.spec Inv-loop μ-loop (λ c κs. search needs) loop-holds (λ c κs. search needs) (λ c κs. search needs) (λ c. search needs) (λ c. search needs) loop-again returns)
+    (tie.spec Inv-loop μ-loop (λ c κs. search needs) loop-holds (λ c κs. search needs) (λ c κs. search needs)
+    (λ c. search needs) (λ c. search needs) loop-again returns)

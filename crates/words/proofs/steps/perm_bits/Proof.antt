@@ -1,6 +1,6 @@
 -- `perm_bits` meets its contract: a test for each word of where its bits come from. Assumes nothing.
 use borrow.Author.Needs.{needs}
-use Rattle.bits.proofs.Linear.{xored, shl, shr, through}
+use Rattle.bits.proofs.XorOfBits.{xored, shl, shr, through}
 use Rattle.words.proofs.Moves.{inputs, rearranges}
 use Rattle.words.proofs.steps.perm_bits.Statement.{statement}
 use Rattle.words.proofs.steps.perm_bits.Tie as tie

@@ -1,6 +1,6 @@
 -- `rotate` meets its contract: a test for each word of where its bits come from. Assumes nothing.
 use borrow.Author.Needs.{needs}
-use Rattle.bits.proofs.Linear.{xored, shl, shr}
+use Rattle.bits.proofs.XorOfBits.{xored, shl, shr}
 use Rattle.words.proofs.Moves.{inputs, rearranges}
 use Rattle.words.proofs.steps.rotate.Statement.{statement}
 use Rattle.words.proofs.steps.rotate.Tie as tie

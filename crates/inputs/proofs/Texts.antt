@@ -1,0 +1,73 @@
+-- The ciphertext's blocks in shares, as they are made: cut, completed, joined; the last block's subkey. Assumes nothing.
+use mathlib.Core.Path.{_≡_, sym, ap, ap₂, _∙_}
+use mathlib.Core.Bool.{Bool, cond}
+use mathlib.Core.List.{List, _++_}
+use Prim.Native.Nat.{ℕ, suc, _+_, _-_, _*_, _%_, _≤_}
+use native.Mathlib.Omega.{arith}
+use lib.Dec.{eqb}
+use lib.ListN.{length, drop, replicate}
+use lib.Seq.{take-take}
+use borrow.Author.Tests.{eq-eqb, ne-eqb}
+use Rattle.blocks.specs.Bytes.{_⊕_, zeros}
+use Rattle.blocks.specs.Put.{part, put}
+use Rattle.blocks.proofs.Xor.{⊕-zero}
+use Rattle.blocks.proofs.Parts.{part-length, part-part, put-zeros}
+use Rattle.words.specs.Words.{unpacked}
+use Rattle.words.proofs.Words.{unpacked-block}
+use Rattle.modes.specs.Pieces.{piece}
+use Rattle.modes.specs.Cmac.{doubled}
+use Rattle.links.specs.Record.{counterBlock}
+use Rattle.links.specs.declared.Sender.{Sender}
+use Rattle.shares.specs.declared.Triple.{Triple}
+use Rattle.masking.specs.Shares.{Shares, each, only, sharesIn}
+use Rattle.shares.specs.Packed.{sharesOf}
+use Rattle.masking.proofs.Shape.{shares-same}
+use Rattle.calls.specs.Sealed.{cut, completed, lastKey, textBlock}
+use Rattle.inputs.specs.Inputs.{blockShares}
+
+-- the first n bytes of a block, written over zeros
+pub cut-written : (at n : ℕ) (s : List ℕ) → at + 16 ≤ length s → n ≤ 16
+    → put 0 (part at (at + n - at) s) (replicate 16 0) ≡ cut n (part at 16 s)
+cut-written at n s l h =
+    let e : at + n - at ≡ n = omega arith in
+    let k : length (part at n s) ≡ n = part-length at n s (omega arith) in
+    ap (λ (i : ℕ). put 0 (part at i s) (replicate 16 0)) e
+    ∙ put-zeros (part at n s) 16 (omega arith)
+    ∙ ap₂ (λ (b : List ℕ) (i : ℕ). b ++ replicate (16 - i) 0) (sym (take-take n 16 (drop at s) h)) k
+
+-- ---- the last block's subkey
+
+module _ (n : ℕ) (s t : Shares) where
+  chosen : (b : Bool) → eqb (n % 16) 0 ≡ b → t ≡ each (λ l. cond b (doubled l) (doubled (doubled l))) s → t ≡ each (lastKey n) s
+  chosen b e h = h ∙ ap (λ (b : Bool). each (λ l. cond b (doubled l) (doubled (doubled l))) s) (sym e)
+
+  pub key-once : n % 16 ≡ 0 → t ≡ each doubled s → t ≡ each (lastKey n) s
+  key-once e h = chosen _ (eq-eqb (n % 16) 0 e) h
+
+  pub key-twice : (n % 16 ≡ 0 → ⊥) → t ≡ each (λ l. doubled (doubled l)) s → t ≡ each (lastKey n) s
+  key-twice e h = chosen _ (ne-eqb (n % 16) 0 e) h
+
+-- ---- blocks
+
+-- block j of the ciphertext, from the first n bytes of each output share and the completed message block d
+pub text-shares : (m o : List ℕ) (j n : ℕ) (t : Triple) (a b c d : List ℕ) → n ≡ length (piece j m) → d ≡ completed (piece j m)
+    → a ≡ cut n (part (48 * j) 16 o) → b ≡ cut n (part (48 * j + 16) 16 o) → c ≡ cut n (part (48 * j + 32) 16 o)
+    → unpacked (t .a) ≡ a ⊕ d → unpacked (t .b) ≡ b → unpacked (t .c) ≡ c → sharesOf t ≡ textBlock m j (sharesIn (part (48 * j) 48 o))
+text-shares m o j n t a b c d en ed ea eb ec ta tb tc =
+    shares-same (ta ∙ ap₂ _⊕_ (ea ∙ cell 0 (48 * j) (omega arith) (omega arith)) ed)
+    (other (t .b) (tb ∙ eb ∙ cell 16 (48 * j + 16) (omega arith) (omega arith)))
+    (other (t .c) (tc ∙ ec ∙ cell 32 (48 * j + 32) (omega arith) (omega arith)))
+  where
+    cell : (p q : ℕ) → p + 16 ≤ 48 → q ≡ 48 * j + p → cut n (part q 16 o) ≡ cut (length (piece j m)) (part p 16 (part (48 * j) 48 o))
+    cell p q h e = ap₂ cut en (sym (part-part (48 * j) 48 p 16 q o h e))
+
+    other : (w : List ℕ) {x : List ℕ} → unpacked w ≡ x → unpacked w ≡ x ⊕ zeros
+    other w e = sym (⊕-zero (unpacked-block w)) ∙ ap (λ (z : List ℕ). z ⊕ zeros) e
+
+-- block j of what is authenticated: the first, and another
+module _ (x : Sender) (m o : List ℕ) (j : ℕ) (s : Shares) where
+  pub mac-first : j ≡ 0 → s ≡ only (counterBlock (x .number) (x .last + 1) 0) → s ≡ blockShares x m o j
+  mac-first e h = h ∙ ap (blockShares x m o) (sym e)
+
+  pub mac-next : (j ≡ 0 → ⊥) → s ≡ textBlock m (j - 1) (sharesIn (part (48 * (j - 1)) 48 o)) → s ≡ blockShares x m o j
+  mac-next e h = let d : suc (j - 1) ≡ j = omega arith in h ∙ ap (blockShares x m o) d

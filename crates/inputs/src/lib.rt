@@ -1,0 +1,105 @@
+// What CMAC's calls of a sealing take in, on shares: the blocks of what is authenticated, and the last one's subkey.
+use links::Sender;
+use packing::pack;
+use packing::unpack;
+use shares::Triple;
+use shares::only;
+use words::steps::add;
+ghost use mathlib.Core.Path.{_≡_};
+ghost use Prim.Native.Nat.{_+_, _*_, _≤_, _<_};
+ghost use lib.ListN.{length};
+ghost use Rattle.blocks.specs.Put.{part};
+ghost use Rattle.words.specs.Words.{unpacked};
+ghost use Rattle.modes.specs.Pieces.{blockCount, piece};
+ghost use Rattle.modes.specs.Cmac.{doubled};
+ghost use Rattle.links.specs.Record.{standard, greatest, longest};
+ghost use Rattle.masking.specs.Shares.{each, sharesIn};
+ghost use Rattle.shares.specs.Packed.{sharesOf};
+ghost use Rattle.calls.specs.Sealed.{cut, completed, lastKey, textBlock};
+ghost use Rattle.inputs.specs.Inputs.{outsSize, blockShares};
+
+// ---- the subkey
+
+fn double_share(s: [u32; 4]) -> [u32; 4]
+    ensures { λ r. ⌜ unpacked r ≡ doubled (unpacked s) ⌝ }
+{
+    pack(modes::double(unpack(s)))
+}
+
+fn double_shares(s: Triple) -> Triple
+    ensures { λ r. ⌜ sharesOf r ≡ each doubled (sharesOf s) ⌝ }
+{
+    let a = s.a;
+    let b = s.b;
+    let c = s.c;
+    Triple {
+        a: double_share(a),
+        b: double_share(b),
+        c: double_share(c),
+    }
+}
+
+// The last block's subkey, share by share, of a message of `len` bytes.
+pub fn last_key(s: Triple, len: usize) -> Triple
+    ensures { λ r. ⌜ sharesOf r ≡ each (lastKey len) (sharesOf s) ⌝ }
+{
+    let first = double_shares(s);
+    if len % 16 == 0 {
+        return first;
+    }
+    double_shares(first)
+}
+
+// ---- the blocks
+
+// The first n bytes of the block from `at`, zeros behind them.
+fn cut_block(s: &[u8], at: usize, n: usize) -> [u8; 16]
+    requires { ⌜ (at + 16 ≤ length (now s)) × (n ≤ 16) ⌝ }
+    ensures { λ r. ⌜ r ≡ cut n (part at 16 (now (s .entry))) ⌝ }
+{
+    let mut block = [0u8; 16];
+    blocks::put_bytes(&s[at..at + n], &mut block, 0);
+    block
+}
+
+// Block j of the message, padded where it is not complete.
+fn completed_at(message: &[u8], j: usize) -> [u8; 16]
+    requires { ⌜ j < blockCount (length (now message)) ⌝ }
+    ensures { λ r. ⌜ r ≡ completed (piece j (now (message .entry))) ⌝ }
+{
+    let at = 16 * j;
+    if message.len() - at < 16 {
+        return modes::padded_at(message, at);
+    }
+    blocks::block_at(message, at)
+}
+
+// Block j of the ciphertext: its call's output shares cut to the block's bytes, with the message block in share 0.
+fn text_block(message: &[u8], outs: &[u8], j: usize) -> Triple
+    requires { ⌜ j < blockCount (length (now message)) ⌝ }
+    requires { ⌜ (length (now message) ≤ longest) × (length (now outs) ≡ outsSize) ⌝ }
+    ensures { λ r. ⌜ sharesOf r ≡ textBlock (now (message .entry)) j (sharesIn (part (48 * j) 48 (now (outs .entry)))) ⌝ }
+{
+    let n = modes::width(message.len(), 16 * j);
+    let at = 48 * j;
+    let a = cut_block(outs, at, n);
+    let b = cut_block(outs, at + 16, n);
+    let c = cut_block(outs, at + 32, n);
+    Triple {
+        a: add(pack(a), pack(completed_at(message, j))),
+        b: pack(b),
+        c: pack(c),
+    }
+}
+
+// Block j of what is authenticated: counter block 0, then the ciphertext.
+pub fn mac_block(link: Sender, message: &[u8], outs: &[u8], j: usize) -> Triple
+    requires { ⌜ (link .last < greatest standard) × (j ≤ blockCount (length (now message))) ⌝ }
+    requires { ⌜ (length (now message) ≤ longest) × (length (now outs) ≡ outsSize) ⌝ }
+    ensures { λ r. ⌜ sharesOf r ≡ blockShares link (now (message .entry)) (now (outs .entry)) j ⌝ }
+{
+    if j == 0 {
+        return only(pack(links::counter_block(link.number, (link.last + 1) as u64, 0)));
+    }
+    text_block(message, outs, j - 1)
+}

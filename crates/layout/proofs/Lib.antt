@@ -1,0 +1,2 @@
+pub mod LinkBytes
+pub mod Keying

@@ -1,8 +1,0 @@
-pub mod Lent
-pub mod Keying
-pub mod Opening
-pub mod Sealing
-pub mod Said
-pub mod Total
-pub mod Right
-pub mod ProbeProof

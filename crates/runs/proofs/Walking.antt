@@ -1,0 +1,71 @@
+-- The calls of a run one after the other: each leads behind itself, and gives the run's output. Assumes nothing.
+use mathlib.Core.Path.{_≡_, sym, ap, _∙_, subst}
+use mathlib.Core.List.{List, [], _∷_}
+use Prim.Native.Nat.{ℕ, _+_, _-_, _≤_}
+use native.Mathlib.Decide.{ℕ-discrete}
+use native.Mathlib.Omega.{arith}
+use lib.Dec.{eqb}
+use borrow.Author.Tests.{eq-eqb, ne-eqb}
+use Rattle.shares.specs.declared.Triple.{Triple}
+use Rattle.masking.specs.Shares.{Shares}
+use Rattle.masking.specs.Tape.{Reader}
+use Rattle.masking.specs.Stages.{call, masked, shownShares}
+use Rattle.masking.specs.Call.{encryption, callSize}
+use Rattle.shares.specs.Packed.{sharesOf}
+use Rattle.runs.specs.declared.Watch.{Watch}
+use Rattle.runs.specs.declared.Seen.{Seen}
+use Rattle.runs.specs.declared.Walk.{Walk}
+use Rattle.runs.specs.Run.{Run, keyShares, inputOf, outputOf}
+use Rattle.runs.specs.Walk.{looked, Shown, Stepped, Walked}
+
+-- ---- what one call shows
+
+module _ (i j : ℕ) (s t : Triple) (old r : Seen) (e : r ≡ looked (eqb i j) s t old) where
+  pub look-hit : (k x : Shares) (M : Reader) (o n : ℕ) → sharesOf s ≡ masked encryption k x M o (n - 1)
+      → sharesOf t ≡ shownShares encryption k x M o (n - 1) → i ≡ j → Shown k x M o n r
+  look-hit k x M o n es et h =
+      let seen : r ≡ record { state = s; key = t } = e ∙ rw (eq-eqb i j h) in
+      record {
+        state = ap (λ (z : Seen). sharesOf (z .state)) seen ∙ es;
+        key = ap (λ (z : Seen). sharesOf (z .key)) seen ∙ et;
+      }
+
+  pub look-miss : (i ≡ j → ⊥) → r ≡ old
+  look-miss h = e ∙ rw (ne-eqb i j h)
+
+-- ---- from call to call
+
+module _ (R : Run) (M : Reader) (a : Watch) where
+  pub walked-none : {w : Walk} → w .calls ≡ 0 → w .used ≡ R .begins 1 → Walked R M a 0 w
+  walked-none e d = record { calls = e; used = d; saw = λ l h. absurd (omega arith) }
+
+  pub walked-at : {k l : ℕ} {w : Walk} → k ≡ l → Walked R M a k w → Walked R M a l w
+  walked-at {w = w} e W = subst (λ (j : ℕ). Walked R M a j w) e W
+
+  -- call n comes next: it leads behind itself, and gives its output
+  module _ (k n : ℕ) (number : n ≡ k + 1) (next : R .begins n + callSize ≡ R .begins (n + 1)) {key input : Shares}
+      (ek : key ≡ keyShares encryption R M n) (ei : input ≡ inputOf encryption R M n) {w r : Walk}
+      (W : Walked R M a k w) (S : Stepped key input M a w r) where
+    there : w .used ≡ R .begins n
+    there = W .used ∙ ap (R .begins) (sym number)
+
+    walked-more : Walked R M a n r
+    walked-more = record {
+      calls = omega (arith, S .calls, W .calls);
+      used = S .used ∙ ap (λ (u : ℕ). u + callSize) there ∙ next;
+      saw = λ l h. elim (ℕ-discrete n (a .call)) [
+        | yes d ↦
+            let s = S .hit (ap (λ (z : ℕ). z + 1) (W .calls) ∙ sym number ∙ d) in
+            record {
+              state = s .state ∙ λ i. masked encryption ((ek ∙ ap (keyShares encryption R M) d) i)
+                  ((ei ∙ ap (inputOf encryption R M) d) i) M ((there ∙ ap (R .begins) d) i) (a .stage - 1);
+              key = s .key ∙ λ i. shownShares encryption ((ek ∙ ap (keyShares encryption R M) d) i)
+                  ((ei ∙ ap (inputOf encryption R M) d) i) M ((there ∙ ap (R .begins) d) i) (a .stage - 1);
+            }
+        | no d ↦ rw (S .miss (λ f. d (omega (arith, W .calls)))) (W .saw l (omega arith))
+      ];
+    }
+
+    pub step-more : Walked R M a n r × (sharesOf (r .out) ≡ outputOf encryption R M n)
+    unfolding outputOf
+    step-more = (walked-more, S .out ∙ λ i. call encryption (ek i) (ei i) M (there i))

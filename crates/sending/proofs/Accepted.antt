@@ -1,0 +1,48 @@
+-- An accepted call of sealing is an accepted sealing on the link that its bytes say. Assumes nothing.
+use mathlib.Core.Path.{_≡_}
+use mathlib.Core.List.{List, []}
+use Prim.Native.Nat.{ℕ, _≤_}
+use lib.ListN.{length}
+use borrow.Author.Tests.{ltb-false, le-ltb}
+use Rattle.answers.specs.Answer.{Accepts, NoneOf}
+use Rattle.answers.proofs.First.{accepts-none, none-accepts}
+use Rattle.calls.specs.Entry.{sealCauses, sealAnswer}
+use Rattle.calls.specs.Demand.{Accepted, AcceptedSealing}
+use Rattle.sending.specs.Stored.{senderIn}
+use Rattle.sending.specs.Calls.{sharesSize, sealedCauses, sealedAnswer}
+use Rattle.sending.specs.Demand.{StoredSealing}
+use Rattle.sending.proofs.Stored.{sender-formed}
+
+-- ---- sealing is accepted exactly where it is on the link that the bytes say, with room for shares and count
+
+module _ (link m t : List ℕ) (o s : ℕ) where
+  none-of : Accepted (senderIn link) m t o → sharesSize ≤ s → NoneOf (sealedCauses link m t o s)
+  unfolding sealAnswer
+  none-of A h =
+      let n = accepts-none (sealCauses (senderIn link) m t o) _ tt A in
+      (n .0, (n .1 .0, (n .1 .1 .0, (n .1 .1 .1 .0, (n .1 .1 .1 .1 .0, (le-ltb s sharesSize h, tt))))))
+
+  pub call-accepted : Accepted (senderIn link) m t o → sharesSize ≤ s → Accepts (sealedAnswer link m t o s)
+  unfolding sealedAnswer
+  call-accepted A h = none-accepts (sealedCauses link m t o s) [] (none-of A h)
+
+  pub accepted-call : Accepts (sealedAnswer link m t o s) → Accepted (senderIn link) m t o × (sharesSize ≤ s)
+  unfolding sealedAnswer sealAnswer
+  accepted-call A =
+      let n = accepts-none (sealedCauses link m t o s) [] tt A in (
+        none-accepts (sealCauses (senderIn link) m t o) _ (n .0, (n .1 .0, (n .1 .1 .0, (n .1 .1 .1 .0, (n .1 .1 .1 .1 .0, tt))))),
+        ltb-false s sharesSize (n .1 .1 .1 .1 .1 .0),
+      )
+
+-- the sealing on the link that the bytes say
+abbrev pub said : StoredSealing → AcceptedSealing
+said S = record {
+  link = senderIn (S .link);
+  message = S .message;
+  tape = S .tape;
+  out = S .out;
+  formed = sender-formed (S .link) (S .link-bytes);
+  message-bytes = S .message-bytes;
+  tape-bytes = S .tape-bytes;
+  accepted = accepted-call (S .link) (S .message) (S .tape) (length (S .out)) (length (S .shares)) (S .accepted) .0;
+}

@@ -1,0 +1,104 @@
+-- Probe-proof at the calls: the three statements on links in their bytes, with the tag's shares and the tape count out of the second slice.
+-- Assumes nothing.
+use mathlib.Core.Path.{_≡_, sym, ap, _∙_}
+use mathlib.Core.List.{List, _++_, append-assoc}
+use Prim.Native.Nat.{ℕ, _+_, _-_, _*_, _≤_, _<_}
+use native.Mathlib.Omega.{arith}
+use lib.ListN.{length, take}
+use lib.Seq.{take-at, drop-at}
+use Rattle.blocks.specs.Number.{bigEndian}
+use Rattle.blocks.specs.Put.{part, put}
+use Rattle.blocks.proofs.Numbers.{bigEndian-length}
+use Rattle.blocks.proofs.Parts.{part-take, put-start}
+use Rattle.answers.proofs.First.{if-done}
+use Rattle.baksheesh.specs.Baksheesh.{rounds}
+use Rattle.modes.specs.Pieces.{blockCount}
+use Rattle.masking.specs.Shares.{isFirst, flat}
+use Rattle.masking.specs.Tape.{at}
+use Rattle.masking.specs.Call.{pairCount}
+use Rattle.masking.specs.OneTape.{ExactlyOne, roundOnLane}
+use Rattle.calls.specs.Numbered.{callCount, tapeNeed}
+use Rattle.calls.specs.Sealed.{tagShares}
+use Rattle.calls.specs.Entry.{indexOf}
+use Rattle.calls.specs.Demand.{SameLane, Joined}
+use Rattle.calls.proofs.Lanes.{returned, tag-size}
+use Rattle.calls.proofs.ProbeProof as Value
+use Rattle.sending.specs.Stored.{senderIn}
+use Rattle.sending.specs.Calls.{countSize, sharesSize, sharesOutput}
+use Rattle.sending.specs.Demand.{StoredSealing, shownWith, StoredSameLane}
+use Rattle.sending.proofs.Accepted.{call-accepted, accepted-call, said}
+use Rattle.sending.proofs.Right.{is-done}
+
+-- two calls of sealing that return 0, with messages of one length; any lane of any round of any call: exactly one tape, differing from
+-- the first's only in that round's 32 mask bytes and the lane's 16 key mask bytes, makes the report of the second show the same lane
+pub stored-fits-every-key : (S T : StoredSealing) → length (S .message) ≡ length (T .message)
+    → (k r i : ℕ) → 1 ≤ k → k ≤ callCount (blockCount (length (S .message))) → 1 ≤ r → r ≤ pairCount → i < 3
+    → ExactlyOne (StoredSameLane S T k r i)
+stored-fits-every-key S T e k r i k₁ kₙ r₁ rₙ l = record {
+  one = tape .one;
+  holds = stored (tape .one) (tape .holds);
+  only-one = λ w H. tape .only-one w (taken w H);
+}
+  where
+    tape : ExactlyOne (SameLane (said S) (said T) k r i)
+    tape = Value.fits-every-key (said S) (said T) e k r i k₁ kₙ r₁ rₙ l
+
+    room : sharesSize ≤ length (T .shares)
+    room = accepted-call (T .link) (T .message) (T .tape) (length (T .out)) (length (T .shares)) (T .accepted) .1
+
+    stored : (w : List ℕ) → SameLane (said S) (said T) k r i w → StoredSameLane S T k r i w
+    stored w H = record {
+      as-long = H .as-long;
+      all-bytes = H .all-bytes;
+      elsewhere = H .elsewhere;
+      accepted = call-accepted (T .link) (T .message) w (length (T .out)) (length (T .shares)) (H .accepted) room;
+      same = H .same;
+    }
+
+    taken : (w : List ℕ) → StoredSameLane S T k r i w → SameLane (said S) (said T) k r i w
+    taken w H = record {
+      as-long = H .as-long;
+      all-bytes = H .all-bytes;
+      elsewhere = H .elsewhere;
+      accepted = accepted-call (T .link) (T .message) w (length (T .out)) (length (T .shares)) (H .accepted) .0;
+      same = H .same;
+    }
+
+-- the three lanes of any round of any call join to the plain cipher's state and key
+pub stored-lanes-join : (S : StoredSealing) (k r : ℕ) → 1 ≤ k → k ≤ callCount (blockCount (length (S .message))) → 1 ≤ r → r ≤ pairCount
+    → Joined (senderIn (S .link)) (S .message) (S .tape) k r
+stored-lanes-join S = Value.lanes-join (said S)
+
+-- ---- the second slice
+
+module _ (S : StoredSealing) where
+  abbrev shares : List ℕ
+  shares = flat (tagShares (senderIn (S .link)) (S .message) (at (S .tape)))
+
+  abbrev count : List ℕ
+  count = bigEndian countSize (tapeNeed (length (S .message)))
+
+  written : sharesOutput (S .link) (S .message) (S .tape) (S .out) (S .shares) ≡ put 0 (shares ++ count) (S .shares)
+  written = sym (if-done (is-done S) _ (S .shares))
+
+  size : length shares ≡ 48
+  size = tag-size (said S)
+
+-- of the second slice's 52 bytes, each 16 are round 35 done on the report's 48 bytes of their lane of the last call, and the last four
+-- the tape bytes read
+pub stored-tag-shares : (S : StoredSealing) (i : ℕ) → i < 3
+    → part (16 * i) 16 (sharesOutput (S .link) (S .message) (S .tape) (S .out) (S .shares))
+    ≡ roundOnLane (rounds - 1) (isFirst (indexOf i)) (shownWith S (S .tape) (callCount (blockCount (length (S .message)))) rounds i)
+stored-tag-shares S i l =
+    ap (part (16 * i) 16) (written S ∙ put-start _ (S .shares) ∙ append-assoc (shares S) (count S) _)
+    ∙ sym (part-take (16 * i) 16 48 (shares S ++ _) (omega arith))
+    ∙ ap (part (16 * i) 16) (take-at (shares S) _ 48 (size S) ∙ if-done (returned (said S)) (shares S) _)
+    ∙ Value.tag-shares (said S) i l
+
+pub stored-count : (S : StoredSealing)
+    → part 48 countSize (sharesOutput (S .link) (S .message) (S .tape) (S .out) (S .shares))
+    ≡ bigEndian countSize (tapeNeed (length (S .message)))
+stored-count S =
+    ap (part 48 countSize) (written S ∙ put-start _ (S .shares) ∙ append-assoc (shares S) (count S) _)
+    ∙ ap (take countSize) (drop-at (shares S) _ 48 (size S))
+    ∙ take-at (count S) _ countSize (bigEndian-length countSize (tapeNeed (length (S .message))))

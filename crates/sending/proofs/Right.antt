@@ -1,0 +1,39 @@
+-- A call of sealing writes plain sealing's record, and keeps the advanced link. Assumes nothing.
+use mathlib.Core.Path.{_≡_, sym, ap, _∙_}
+use mathlib.Core.List.{[], _++_}
+use Prim.Native.Nat.{_+_}
+use lib.ListN.{length}
+use Rattle.answers.specs.Answer.{done}
+use Rattle.answers.proofs.First.{accepts-done, if-done}
+use Rattle.baksheesh.specs.Baksheesh.{encrypt}
+use Rattle.links.specs.Record.{standard}
+use Rattle.plain.specs.Entry.{plainOutput}
+use Rattle.calls.specs.Entry.{advanced}
+use Rattle.calls.specs.Demand.{joinedKE, joinedKM}
+use Rattle.calls.proofs.Lanes.{returned}
+use Rattle.calls.proofs.Right.{same-output}
+use Rattle.calls.proofs.Total.{advanced-formed}
+use Rattle.sending.specs.Stored.{senderIn}
+use Rattle.sending.specs.Calls.{sealedCauses, sealedAnswer, sealedLink, recordOutput}
+use Rattle.sending.specs.Demand.{StoredSealing}
+use Rattle.sending.proofs.Stored.{sender-said}
+use Rattle.sending.proofs.Accepted.{said}
+
+module _ (S : StoredSealing) where
+  pub is-done : sealedAnswer (S .link) (S .message) (S .tape) (length (S .out)) (length (S .shares)) ≡ done []
+  unfolding sealedAnswer
+  is-done = accepts-done (sealedCauses (S .link) (S .message) (S .tape) (length (S .out)) (length (S .shares))) [] tt (S .accepted)
+
+  -- the output is plain sealing's for the joined keys, the link's number and its next sequence number
+  pub stored-record : let x = senderIn (S .link) in
+      recordOutput (S .link) (S .message) (S .tape) (S .out) (S .shares)
+      ≡ plainOutput standard encrypt (joinedKE x ++ joinedKM x) (x .number) (x .last + 1) (S .message) (S .out)
+  stored-record = sym (if-done is-done _ (S .out)) ∙ if-done (returned (said S)) _ (S .out) ∙ same-output (said S)
+
+  -- the link's bytes say the advanced link
+  pub stored-advanced : let x = senderIn (S .link) in
+      senderIn (sealedLink (S .link) (S .message) (S .tape) (length (S .out)) (length (S .shares))) ≡ advanced x
+  stored-advanced =
+      let x = senderIn (S .link) in
+      let F = advanced-formed x (S .message) (S .tape) (length (S .out)) (said S .formed) (said S .accepted) in
+      ap senderIn (sym (if-done is-done _ (S .link))) ∙ sender-said (advanced x) (F .number) (F .last) (F .ke-size) (F .km-size)

@@ -1,4 +1,0 @@
-pub mod Bytewise
-pub mod Lookup
-pub mod Moved
-pub mod Rotated
