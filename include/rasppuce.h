@@ -28,10 +28,10 @@
  *   would have a number that was used, and under one number the key stream is the same: two such
  *   ciphertexts XOR to what their messages XOR to. If a stored link may be old, use new keys.
  *   An older copy of a receiving link lets the records since then in once more.
- * - Secrets in memory. Links, keys and tapes are secret; rasppuce_wipe clears them. Every call also
- *   leaves bytes of keys or key shares on the stack below its caller, and some leave bytes of the
- *   key stream or the message (bench/sizes shows which). Where somebody could read them there,
- *   clear that too, from the function that made the call:
+ * - Secrets in memory. Links, keys and tapes are secret; rasppuce_wipe clears them. Every call but
+ *   keying also leaves bytes of keys or key shares on the stack below its caller, and some leave
+ *   bytes of the key stream or the message (bench/sizes shows which). Where somebody could read
+ *   them there, clear that too, from the function that made the call:
  *
  *       __attribute__((noinline, no_stack_protector)) static void wipe_stack(void)
  *       {

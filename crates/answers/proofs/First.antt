@@ -1,14 +1,7 @@
 -- A refusal's number is that of the first cause that applies, and of no other; an answer accepts where none applies.
 -- Assumes nothing.
-use mathlib.Core.Path.{_≡_, refl, sym, ap, _∙_, subst}
-use mathlib.Core.Bool.{Bool, true, false, not, cond}
-use mathlib.Core.List.{List, [], _∷_}
-use mathlib.Core.Logic.{_↔_}
-use Prim.Native.Nat.{ℕ, zero, suc, _≤_, _<_}
-use native.Mathlib.Omega.{arith}
-use lib.Dec.{T, eqb, leb, ltb}
-use lib.ListN.{take, drop}
-use borrow.Author.Tests.{eq-eqb, ne-eqb, lt-ltb, le-ltb, le-leb, lt-leb}
+use Rattle.prelude.proofs.{_≡_, refl, sym, ap, _∙_, subst, _↔_, Bool, true, false, not, cond, List, [], _∷_, ℕ, zero, suc, _≤_, _<_, arith}
+use Rattle.prelude.proofs.{T, eqb, ltb, take, drop, eq-eqb, ne-eqb, lt-ltb, le-ltb, le-leb, lt-leb}
 use Rattle.answers.specs.Answer.{Answer, done, refused, Cause, _when_, first, numberOf, Accepts, ifDone, FirstOf, here, later, NoneOf}
 
 refused-first : (n : ℕ) (cs : List Cause) (a : Answer) → FirstOf n cs → first cs a ≡ refused n

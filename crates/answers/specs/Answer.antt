@@ -1,10 +1,10 @@
 -- What an entry answers: it does its work and returns values, or refuses under a number. Assumes nothing.
 use mathlib.Core.Path.{_≡_}
-use mathlib.Core.Bool.{Bool, true, false, not, cond}
+use mathlib.Core.Bool.{Bool, false, not, cond}
 use mathlib.Core.List.{List, [], _∷_}
 use Prim.Native.Nat.{ℕ}
 use lib.Dec.{T}
-use Rattle.blocks.specs.Put.{put}
+use Rattle.blocks.specs.Bytes.{put}
 
 pub data Answer : Type 0 where
   done : List ℕ → Answer

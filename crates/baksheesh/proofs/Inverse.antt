@@ -1,16 +1,10 @@
 -- Encryption and decryption undo each other, step by step. Assumes nothing.
-use mathlib.Core.Path.{_≡_, refl, sym, ap, _∙_}
-use mathlib.Core.Bool.{Bool}
-use mathlib.Core.List.{List}
-use Prim.Native.Nat.{ℕ, zero, suc, _+_, _*_, _<_}
-use native.Mathlib.Omega.{arith}
-use lib.Dec.{T}
+use Rattle.prelude.proofs.{_≡_, refl, sym, ap, _∙_, Bool, List, ℕ, zero, suc, _+_, _*_, _<_, arith, T}
 use Rattle.bits.proofs.Test.{four, four-bits, agree₄}
-use Rattle.blocks.specs.Bytes.{Block, _⊕_}
-use Rattle.blocks.specs.Bits.{bitAt, eachCell}
+use Rattle.blocks.specs.{Bytes.Block, Bytes._⊕_, Bits.bitAt, Bits.eachCell}
 use Rattle.blocks.proofs.Xor.{⊕-block, ⊕-again}
-use Rattle.blocks.proofs.ByBits.{blockOf-bits, blockOf-cells, bit-cells, cells-same, eachCell-block}
-use Rattle.blocks.proofs.ByBits.{rearranged-twice, rearranged-same, rearranged-block}
+use Rattle.blocks.proofs.ByBits.{blockOf-bits, blockOf-cells, bit-cells, cells-same, eachCell-block, rearranged-twice, rearranged-same}
+use Rattle.blocks.proofs.ByBits.{rearranged-block}
 use Rattle.baksheesh.specs.Baksheesh.{rounds, sbox, invSbox, to, from, subCells, invSubCells, permBits, invPermBits}
 use Rattle.baksheesh.specs.Baksheesh.{rotated, constant, round, invRound, after, before, encrypt, decrypt}
 use Rattle.baksheesh.proofs.Steps.{at-inside, from-to, to-from, constant-block, after-block}

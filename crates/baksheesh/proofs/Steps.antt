@@ -1,16 +1,9 @@
 -- The S-box's bit form is the printed table and its inverse's the inverse table; the bit move takes bit i to its
 -- printed place; key rotations add up. Assumes nothing.
-use mathlib.Core.Path.{_≡_, sym, ap, _∙_}
-use mathlib.Core.Bool.{Bool}
-use mathlib.Core.List.{List}
-use Prim.Native.Nat.{ℕ, zero, suc, _<_}
-use native.Mathlib.Omega.{arith}
-use lib.Dec.{T, ltb, ltb→lt}
-use lib.ListN.{getD}
+use Rattle.prelude.proofs.{_≡_, sym, ap, _∙_, Bool, List, ℕ, zero, suc, _<_, arith, T, ltb, ltb→lt, getD}
 use Rattle.bits.specs.Bit.{bit}
 use Rattle.bits.proofs.Test.{each, below, agree}
-use Rattle.blocks.specs.Bytes.{Block, _⊕_}
-use Rattle.blocks.specs.Bits.{bitAt}
+use Rattle.blocks.specs.{Bytes.Block, Bits.bitAt}
 use Rattle.blocks.proofs.ByBits.{isBlock, bit-rearranged, rearranged-twice, rearranged-same, rearranged-block}
 use Rattle.blocks.proofs.Xor.{⊕-block}
 use Rattle.baksheesh.specs.Baksheesh.{sboxTable, invSboxTable, sbox, invSbox, cellOf}

@@ -1,15 +1,9 @@
 -- What xor, and, shifts and cuts do to a bit; numbers are equal when their bits are. Assumes nothing.
-use mathlib.Core.Path.{_≡_, refl, sym, ap, ap₂, _∙_}
-use mathlib.Core.Bool.{Bool, true, false, not, _&&_, and-comm}
-use Prim.Native.Nat.{ℕ, zero, suc, _+_, _-_, _*_, _/_, _%_, _^_, _<_}
-use native.Mathlib.Nat.{lt-of-lt-of-le, mod-lt, zero-lt-suc, le-of-suc-le-suc, not-suc-le-zero, div-eq-of-lt, div-add-mod', mul-assoc}
-use native.Mathlib.Nat.{pow-suc, div-one}
-use native.Mathlib.Omega.{arith}
-use native.Mathlib.Numerals.{add-one, one-add}
-use lib.Dec.{eqb}
-use lib.Arith.{digits-div, digits-mod, digits-lt, lt-one}
-use lib.Pow.{pow-mono, shr-shr, shr-lt, field, mod-mod-pow, pow-add, shl-shr, pow-pos}
-use lib.Bits.{bitXor, bitAnd, xor-shr, and-shr, xor-mod, and-mod, shifted-even}
+use Rattle.prelude.proofs.{_≡_, refl, sym, ap, ap₂, _∙_, Bool, true, false, not, _&&_, and-comm, ℕ, zero, suc, _+_, _-_, _*_, _/_, _%_, _^_}
+use Rattle.prelude.proofs.{_<_, lt-of-lt-of-le, mod-lt, zero-lt-suc, le-of-suc-le-suc, not-suc-le-zero, div-eq-of-lt, div-add-mod'}
+use Rattle.prelude.proofs.{mul-assoc, pow-suc, div-one, add-one, one-add, arith, eqb, bitXor, bitAnd, xor-shr, and-shr, xor-mod, and-mod}
+use Rattle.prelude.proofs.{shifted-even, pow-mono, shr-shr, shr-lt, field, mod-mod-pow, pow-add, shl-shr, pow-pos, digits-div, digits-mod}
+use Rattle.prelude.proofs.{digits-lt, lt-one}
 use Rattle.bits.specs.Bit.{_⊻_, digit, odd, bit, number}
 
 two-cases : (P : ℕ → Type 0) → P 0 → P 1 → (n : ℕ) → n < 2 → P n

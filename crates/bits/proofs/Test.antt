@@ -1,12 +1,7 @@
 -- A rule proved at each number below a limit, or at each choice of four bits, by one test that antt computes.
 -- Assumes nothing.
-use mathlib.Core.Path.{_≡_, refl, subst}
-use mathlib.Core.Bool.{Bool, true, false, _&&_, Bool·beq}
-use Prim.Native.Nat.{ℕ, zero, suc, _<_}
-use native.Mathlib.Nat.{not-suc-le-zero}
-use native.Mathlib.Decide.{decLt}
-use native.Mathlib.Omega.{arith}
-use lib.Dec.{T, eqb, eqb→eq}
+use Rattle.prelude.proofs.{_≡_, refl, subst, Bool, true, false, _&&_, Bool·beq, ℕ, zero, suc, _<_, not-suc-le-zero, decLt, arith, T, eqb}
+use Rattle.prelude.proofs.{eqb→eq}
 
 pub and-left : (a b : Bool) → T (a && b) → T a
 and-left true b t = tt

@@ -1,18 +1,10 @@
 -- Words made of words by xor, masks and shifts. Each bit of such a word is the xor of some bits of the words
 -- that it is made of, and which ones antt computes: so one test shows what a straight line of such steps does.
 -- Assumes nothing.
-use mathlib.Core.Path.{_≡_, refl, sym, ap, ap₂, _∙_, subst⁻¹}
-use mathlib.Core.Bool.{Bool, true, false, not, _&&_, cond, and-comm}
-use mathlib.Core.List.{List, [], _∷_}
-use Prim.Native.Nat.{ℕ, _+_, _-_, _*_, _/_, _%_, _^_, _≤_, _<_}
-use native.Mathlib.Nat.{mod-lt, lt-of-le-of-lt, div-le-self, lt-of-lt-of-le, le-trans}
-use native.Mathlib.Omega.{arith}
-use lib.Dec.{T, eqb, leb, ltb, eqb→eq, ltb→lt, leb→le, nleb→lt, nltb→le}
-use lib.ListN.{getD}
-use lib.Pow.{pow-pos, pow-mono}
-use lib.Bits.{bitXor, bitAnd, xor-lt, and-le-l}
-use Rattle.bits.specs.Bit.{bit, odd, _⊻_}
-use Rattle.bits.specs.Swap.{swapmove}
+use Rattle.prelude.proofs.{_≡_, refl, sym, ap, ap₂, _∙_, subst⁻¹, Bool, true, false, not, _&&_, cond, and-comm, List, [], _∷_, ℕ, _+_, _-_}
+use Rattle.prelude.proofs.{_*_, _/_, _%_, _^_, _≤_, _<_, mod-lt, lt-of-le-of-lt, div-le-self, lt-of-lt-of-le, le-trans, arith, T, eqb, leb}
+use Rattle.prelude.proofs.{ltb, eqb→eq, ltb→lt, leb→le, nleb→lt, nltb→le, bitXor, bitAnd, xor-lt, and-le-l, pow-pos, pow-mono, getD}
+use Rattle.bits.specs.{Bit.bit, Bit.odd, Bit._⊻_, Swap.swapmove}
 use Rattle.bits.proofs.Laws.{bit-xor, bit-and, bit-shr, bit-low, bit-shl, bit-shl-low, bit-high}
 use Rattle.bits.proofs.Laws.{⊻-assoc, ⊻-left-comm, ⊻-again, ⊻-false}
 use Rattle.bits.proofs.Test.{each, below, and-left, and-right}

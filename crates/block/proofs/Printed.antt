@@ -1,12 +1,7 @@
 -- What is printed for the first n bytes of a full buffer. Assumes nothing.
-use mathlib.Core.Path.{_≡_, ap, ap₂, sym, _∙_}
-use mathlib.Core.List.{List, [], _∷_, _++_}
-use Prim.Native.Nat.{ℕ, _+_, _≤_}
-use native.Mathlib.Omega.{arith}
-use lib.ListN.{length, take, drop, length-append, length-take}
-use lib.Seq.{take-take, take-add, drop-at, length-take-le}
-use borrow.Author.Tests.{eq-eqb, ne-eqb}
-use Rattle.blocks.specs.Put.{part, put}
+use Rattle.prelude.proofs.{_≡_, ap, ap₂, sym, _∙_, List, [], _∷_, _++_, ℕ, _+_, _≤_, arith, length, take, drop, length-append, length-take}
+use Rattle.prelude.proofs.{take-take, take-add, drop-at, length-take-le, eq-eqb, ne-eqb}
+use Rattle.blocks.specs.Bytes.{part, put}
 use Rattle.blocks.proofs.Parts.{put-put}
 use Rattle.baksheesh.specs.Baksheesh.{encrypt}
 use Rattle.hex.specs.Hex.{hexOf}

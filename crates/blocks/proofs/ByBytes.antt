@@ -1,23 +1,11 @@
 -- A list by its elements, a block by its bytes, each of them by its bits; a loop that writes a block byte by byte.
 -- Assumes nothing.
-use mathlib.Core.Path.{_≡_, refl, sym, ap, ap₂, _∙_}
-use mathlib.Core.Bool.{Bool}
-use mathlib.Core.List.{List, [], _∷_, _++_}
-use Prim.Native.Nat.{ℕ, zero, suc, _+_, _-_, _*_, _/_, _%_, _≤_, _<_}
-use native.Mathlib.Nat.{not-suc-le-zero}
-use native.Mathlib.Decide.{decLt}
-use native.Mathlib.Omega.{arith}
-use lib.ListN.{length, getD, List·getD-append}
-use lib.Seq.{getD-append-add}
-use lib.Bits.{bitXor}
+use Rattle.prelude.proofs.{_≡_, refl, sym, ap, ap₂, _∙_, Bool, List, [], _∷_, _++_, ℕ, zero, suc, _+_, _-_, _*_, _/_, _%_, _≤_, _<_}
+use Rattle.prelude.proofs.{not-suc-le-zero, decLt, arith, bitXor, length, getD, List·getD-append, getD-append-add}
 use Rattle.bits.specs.Bit.{bit}
 use Rattle.bits.proofs.Laws.{number-same, number-bits}
-use Rattle.blocks.specs.Bytes.{_⊕_}
-use Rattle.blocks.specs.Bits.{blockOf, bitAt}
-use Rattle.blocks.specs.Put.{put, tab}
-use Rattle.blocks.proofs.Xor.{⊕-length, getD-⊕}
-use Rattle.blocks.proofs.ByBits.{isBlock, bit-blockOf}
-use Rattle.blocks.proofs.Parts.{tab-length, tab-list}
+use Rattle.blocks.specs.{Bytes._⊕_, Bytes.put, Bytes.tab, Bits.blockOf, Bits.bitAt}
+use Rattle.blocks.proofs.{Xor.⊕-length, Xor.getD-⊕, ByBits.isBlock, ByBits.bit-blockOf, Parts.tab-length, Parts.tab-list}
 
 -- ---- a list by its elements
 

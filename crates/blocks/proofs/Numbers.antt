@@ -1,17 +1,9 @@
 -- A number and its bytes say each other, at any width. Assumes nothing.
-use mathlib.Core.Path.{_≡_, refl, sym, ap, ap₂, _∙_, subst}
-use mathlib.Core.List.{List, [], _∷_, _++_}
-use Prim.Native.Nat.{ℕ, zero, suc, _+_, _-_, _*_, _/_, _%_, _^_, _≤_, _<_}
-use native.Mathlib.Nat.{mod-eq-of-lt, pow-suc, pow-succ', pow-le-pow-right, mul-assoc, add-comm, zero-add, suc-add, one-le-pow}
-use native.Mathlib.Nat.{lt-of-lt-of-le}
-use native.Mathlib.Nat.{add-mul-div-right, div-div-eq-div-mul, div-eq-of-lt, div-one}
-use native.Mathlib.Numerals.{add-one}
-use native.Mathlib.Omega.{arith}
-use lib.ListN.{length, getD, set, replicate, length-append}
-use lib.Arith.{digits-div, digits-lt, mod-mul}
-use Rattle.blocks.specs.Bytes.{Bytes}
-use Rattle.blocks.specs.Number.{bigEndian, value}
-use Rattle.blocks.specs.Put.{part, put}
+use Rattle.prelude.proofs.{_≡_, refl, sym, ap, ap₂, _∙_, subst, List, [], _∷_, _++_, ℕ, zero, suc, _+_, _-_, _*_, _/_, _%_, _^_, _≤_, _<_}
+use Rattle.prelude.proofs.{mod-eq-of-lt, pow-suc, pow-succ', pow-le-pow-right, mul-assoc, add-comm, zero-add, suc-add, one-le-pow}
+use Rattle.prelude.proofs.{lt-of-lt-of-le, add-mul-div-right, div-div-eq-div-mul, div-eq-of-lt, div-one, add-one, arith, digits-div}
+use Rattle.prelude.proofs.{digits-lt, mod-mul, length, getD, set, replicate, length-append}
+use Rattle.blocks.specs.Bytes.{Bytes, bigEndian, value, part, put}
 use Rattle.blocks.proofs.Parts.{part-length, part-bytes, part-more, put-none, put-length, set-put}
 
 pub bigEndian-length : (w x : ℕ) → length (bigEndian w x) ≡ w

@@ -1,16 +1,9 @@
 -- Parts of a list, parts written one behind the other, and loops that write an element a turn. Assumes nothing.
-use mathlib.Core.Path.{_≡_, refl, ap, sym, _∙_}
-use mathlib.Core.List.{List, [], _∷_, _++_, append-assoc, append-nil}
-use Prim.Native.Nat.{ℕ, zero, suc, _+_, _-_, _≤_, _<_}
-use native.Mathlib.Nat.{zero-add, add-zero, add-assoc}
-use native.Mathlib.Numerals.{add-one}
-use native.Mathlib.Omega.{arith}
-use lib.ListN.{length, getD, take, drop, set, replicate, length-append, length-drop, length-replicate, take-append-drop}
-use lib.ListN.{replicate-append-replicate}
-use lib.Seq.{length-take-le, take-take, take-at, drop-at, drop-drop, drop-append-add, drop-cons, set-at, drop-length, getD-drop, take-suc}
-use lib.Seq.{take-length}
-use Rattle.blocks.specs.Bytes.{Bytes}
-use Rattle.blocks.specs.Put.{put, tab, part}
+use Rattle.prelude.proofs.{_≡_, refl, ap, sym, _∙_, List, [], _∷_, _++_, append-assoc, append-nil, ℕ, zero, suc, _+_, _-_, _≤_, _<_}
+use Rattle.prelude.proofs.{zero-add, add-zero, add-assoc, add-one, arith, length, getD, take, drop, set, replicate, length-append}
+use Rattle.prelude.proofs.{length-drop, length-replicate, take-append-drop, replicate-append-replicate, length-take-le, take-take, take-at}
+use Rattle.prelude.proofs.{drop-at, drop-drop, drop-append-add, drop-cons, set-at, drop-length, getD-drop, take-suc, take-length}
+use Rattle.blocks.specs.Bytes.{Bytes, put, tab, part}
 use Rattle.blocks.proofs.Xor.{bytes-take, bytes-drop}
 
 -- ---- parts

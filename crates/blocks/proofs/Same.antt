@@ -1,16 +1,7 @@
 -- The test whether two lists are the same. Assumes nothing.
-use mathlib.Core.Path.{_≡_, refl, sym, ap, ap₂, _∙_}
-use mathlib.Core.Bool.{Bool, true, false, _&&_, and-true, and-false, and-assoc, false≢true}
-use mathlib.Core.List.{List, [], _∷_, _++_}
-use Prim.Native.Nat.{ℕ, _+_, _<_}
-use native.Mathlib.Nat.{zero-add}
-use native.Mathlib.Omega.{arith}
-use lib.Dec.{eqb}
-use lib.ListN.{length, take, getD}
-use lib.Seq.{length-take-le}
-use borrow.Author.Tests.{eqb-true, eq-eqb, ne-eqb}
-use Rattle.blocks.specs.Bytes.{sameBytes}
-use Rattle.blocks.specs.Put.{part}
+use Rattle.prelude.proofs.{_≡_, refl, sym, ap, ap₂, _∙_, Bool, true, false, _&&_, and-true, and-false, and-assoc, false≢true, List, [], _∷_}
+use Rattle.prelude.proofs.{_++_, ℕ, _+_, _<_, zero-add, arith, eqb, length, take, getD, length-take-le, eqb-true, eq-eqb, ne-eqb}
+use Rattle.blocks.specs.Bytes.{sameBytes, part}
 use Rattle.blocks.proofs.Parts.{part-length, part-more}
 
 pub both-true : (a b : Bool) → (a && b) ≡ true → (a ≡ true) × (b ≡ true)

@@ -1,10 +1,7 @@
 -- What stands in a list after a write: before it, there, and behind it. Assumes nothing.
-use mathlib.Core.Path.{_≡_, sym, ap, _∙_}
-use mathlib.Core.List.{List, _++_, append-assoc}
-use Prim.Native.Nat.{ℕ, _+_, _≤_}
-use lib.ListN.{length, take, drop, length-append}
-use lib.Seq.{take-at, drop-at, length-take-le}
-use Rattle.blocks.specs.Put.{part, put}
+use Rattle.prelude.proofs.{_≡_, sym, ap, _∙_, List, _++_, append-assoc, ℕ, _+_, _≤_, length, take, drop, length-append, take-at, drop-at}
+use Rattle.prelude.proofs.{length-take-le}
+use Rattle.blocks.specs.Bytes.{part, put}
 use Rattle.blocks.proofs.Parts.{part-take}
 
 module _ (at : ℕ) (xs o : List ℕ) (h : at ≤ length o) where

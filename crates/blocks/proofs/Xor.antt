@@ -1,11 +1,6 @@
 -- XOR of byte lists: its laws, those of a group on blocks; and which lists are bytes. Assumes nothing.
-use mathlib.Core.Path.{_≡_, refl, sym, ap, ap₂, _∙_}
-use mathlib.Core.List.{List, [], _∷_, _++_}
-use Prim.Native.Nat.{ℕ, zero, suc, _+_, _≤_, _<_, min}
-use native.Mathlib.Omega.{arith}
-use lib.ListN.{length, take, drop, getD, replicate}
-use lib.Seq.{getD-drop}
-use lib.Bits.{bitXor, xor-zero-r, xor-comm, xor-self, xor-lt}
+use Rattle.prelude.proofs.{_≡_, refl, sym, ap, ap₂, _∙_, List, [], _∷_, _++_, ℕ, zero, suc, _+_, _≤_, _<_, min, arith, bitXor, xor-zero-r}
+use Rattle.prelude.proofs.{xor-comm, xor-self, xor-lt, length, take, drop, getD, replicate, getD-drop}
 use Rattle.bits.proofs.Laws.{xor-assoc}
 use Rattle.blocks.specs.Bytes.{Bytes, Block, _⊕_, zeros}
 

@@ -1,10 +1,10 @@
--- Lists of bytes, their XOR, and blocks of sixteen bytes. Assumes nothing.
+-- Lists of bytes, their XOR, blocks of sixteen bytes; parts of a list; numbers as bytes. Assumes nothing.
 use mathlib.Core.Path.{_≡_}
 use mathlib.Core.Bool.{Bool, true, false, _&&_}
-use mathlib.Core.List.{List, [], _∷_}
-use Prim.Native.Nat.{ℕ, _<_}
+use mathlib.Core.List.{List, [], _∷_, _++_}
+use Prim.Native.Nat.{ℕ, zero, suc, _+_, _*_, _/_, _%_, _^_, _<_}
 use lib.Dec.{eqb}
-use lib.ListN.{length, getD, replicate}
+use lib.ListN.{length, getD, take, drop, replicate}
 use lib.Bits.{bitXor}
 
 -- each number of l is a byte
@@ -36,3 +36,38 @@ sameBytes [] [] = true
 sameBytes [] (y ∷ b) = false
 sameBytes (x ∷ a) [] = false
 sameBytes (x ∷ a) (y ∷ b) = eqb x y && sameBytes a b
+
+-- ---- parts
+
+-- the n elements of s from index at
+abbrev pub part : ℕ → ℕ → List ℕ → List ℕ
+part at n s = take n (drop at s)
+
+-- o with xs written over it from index at
+unfoldable pub put : ℕ → List ℕ → List ℕ → List ℕ
+put at xs o = take at o ++ (xs ++ drop (at + length xs) o)
+
+-- f 0, f 1, .. f (n - 1)
+unfoldable pub tab : ℕ → (ℕ → ℕ) → List ℕ
+tab zero f = []
+tab (suc n) f = tab n f ++ (f n ∷ [])
+
+-- how many blocks m bytes make; the last may be shorter
+abbrev pub blockCount : ℕ → ℕ
+blockCount m = (m + 15) / 16
+
+-- block j of the message m, from 0
+abbrev pub piece : ℕ → List ℕ → List ℕ
+piece j m = part (16 * j) 16 m
+
+-- ---- numbers, the highest byte first
+
+-- the lowest w bytes of x
+unfoldable pub bigEndian : ℕ → ℕ → List ℕ
+bigEndian zero x = []
+bigEndian (suc w) x = x / 256 ^ w % 256 ∷ bigEndian w x
+
+-- the number that bytes say
+unfoldable pub value : List ℕ → ℕ
+value [] = 0
+value (x ∷ s) = x * 256 ^ length s + value s

@@ -1,4 +1,2 @@
 pub mod Bytes
 pub mod Bits
-pub mod Number
-pub mod Put

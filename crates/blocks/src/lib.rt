@@ -2,9 +2,7 @@
 ghost use mathlib.Core.Path.{_≡_};
 ghost use Prim.Native.Nat.{_+_, _≤_};
 ghost use lib.ListN.{length, take};
-ghost use Rattle.blocks.specs.Bytes.{sameBytes};
-ghost use Rattle.blocks.specs.Number.{bigEndian, value};
-ghost use Rattle.blocks.specs.Put.{part, put};
+ghost use Rattle.blocks.specs.Bytes.{sameBytes, bigEndian, value, part, put};
 
 // The number that the w bytes from `at` say.
 pub fn number_at(s: &[u8], at: usize, w: usize) -> u64

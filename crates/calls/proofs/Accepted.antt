@@ -1,21 +1,15 @@
 -- When sealing and the report are done: no cause of a refusal applies. Assumes nothing.
-use mathlib.Core.Path.{_≡_, ap}
-use mathlib.Core.Bool.{true, not}
-use mathlib.Core.List.{List, [], _∷_}
-use Prim.Native.Nat.{ℕ, _≤_, _<_}
-use native.Mathlib.Omega.{arith}
-use lib.ListN.{length, drop}
-use borrow.Author.Tests.{ltb-false, eqb-false, not-false, lt-ltb, le-ltb, eq-eqb, ne-eqb}
-use Rattle.modes.specs.Pieces.{blockCount}
+use Rattle.prelude.proofs.{_≡_, ap, true, not, List, [], _∷_, ℕ, _≤_, _<_, arith, length, drop, ltb-false, eqb-false, not-false, lt-ltb}
+use Rattle.prelude.proofs.{le-ltb, eq-eqb, ne-eqb}
+use Rattle.blocks.specs.Bytes.{blockCount}
 use Rattle.answers.specs.Answer.{Cause, done, NoneOf}
 use Rattle.answers.proofs.First.{done-none, accepts-none, none-accepts}
 use Rattle.links.specs.Record.{standard, greatest, longest, recordSize}
 use Rattle.links.specs.declared.Sender.{Sender}
 use Rattle.plain.specs.Entry.{plainKeys, plainCauses, plainAnswer}
 use Rattle.masking.specs.Call.{pairCount}
-use Rattle.calls.specs.Numbered.{callCount, tapeNeed}
 use Rattle.calls.specs.Entry.{inputCauses, sealCauses, sealAnswer, laneSize, reportCauses, hasLane, reportAnswer}
-use Rattle.calls.specs.Demand.{Accepted}
+use Rattle.calls.specs.{Numbered.callCount, Numbered.tapeNeed, Demand.Accepted}
 
 -- what sealing and the report ask alike
 pub record Sealable (x : Sender) (m t : List ℕ) : Type 0 where

@@ -1,43 +1,29 @@
 -- The joined shares of a sealing's calls are plain sealing's blocks, and its record is the plain record. Assumes nothing.
-use mathlib.Core.Path.{_≡_, refl, sym, ap, ap₂, _∙_}
-use mathlib.Core.Bool.{Bool, true, false, cond}
-use mathlib.Core.List.{List, _∷_, _++_, append-nil}
-use Prim.Native.Nat.{ℕ, zero, suc, _+_, _-_, _%_, _≤_, _<_}
-use native.Mathlib.Decide.{decLt, ℕ-discrete}
-use native.Mathlib.Omega.{arith}
-use lib.Dec.{eqb}
-use lib.ListN.{length, take, replicate, length-append, length-take, length-replicate}
-use lib.Seq.{take-all}
-use borrow.Author.Tests.{eq-eqb, ne-eqb}
-use Rattle.blocks.specs.Bytes.{Bytes, Block, _⊕_, zeros}
+use Rattle.prelude.proofs.{_≡_, refl, sym, ap, ap₂, _∙_, Bool, true, false, cond, List, _∷_, _++_, append-nil, ℕ, zero, suc, _+_, _-_, _%_}
+use Rattle.prelude.proofs.{_≤_, _<_, decLt, ℕ-discrete, arith, eqb, length, take, replicate, length-append, length-take, length-replicate}
+use Rattle.prelude.proofs.{take-all, eq-eqb, ne-eqb}
+use Rattle.blocks.specs.Bytes.{Bytes, Block, _⊕_, zeros, blockCount, piece}
 use Rattle.blocks.proofs.Xor.{⊕-comm, ⊕-length, ⊕-replicate, take-⊕, append-⊕}
 use Rattle.baksheesh.specs.Baksheesh.{encrypt}
 use Rattle.baksheesh.proofs.Inverse.{encrypt-block}
-use Rattle.modes.specs.Pieces.{blockCount, piece}
 use Rattle.modes.specs.Cmac.{doubled, subkey₁, subkey₂, lastBlock}
 use Rattle.modes.specs.Cmac as Cmac
 use Rattle.modes.proofs.Pieces.{piece-length, piece-le, piece-whole, piece-bytes, piece-front, piece-behind}
-use Rattle.modes.proofs.Ctr.{piece-ctr, ctr-same}
-use Rattle.modes.proofs.Doubled.{doubled-block, doubled-⊕}
-use Rattle.links.specs.Record.{standard, counterBlock, recordOf}
-use Rattle.links.specs.declared.Sender.{Sender}
+use Rattle.modes.proofs.{Ctr.piece-ctr, Ctr.ctr-same, Doubled.doubled-block, Doubled.doubled-⊕}
+use Rattle.links.specs.{Record.standard, Record.counterBlock, Record.recordOf, declared.Sender.Sender}
 use Rattle.links.proofs.Record.{counter-block}
 use Rattle.plain.specs.Plain.{crypted, authenticated, macOf, plainRecord}
-use Rattle.masking.specs.Shares.{Shares, Blocks, join, add, each, only, sharesIn}
-use Rattle.masking.specs.Tape.{Reader}
-use Rattle.masking.specs.Stages.{plainAfter}
-use Rattle.masking.specs.Call.{encryption, pairCount, plainEncryption}
-use Rattle.masking.proofs.Shape.{Reads}
+use Rattle.masking.specs.Shares.{Shares, Blocks, join, add, each, only, sharesIn, Reader}
+use Rattle.masking.specs.{Stages.plainAfter, Call.encryption, Call.pairCount, Call.plainEncryption}
 use Rattle.masking.proofs.Joins.{Linear, linear-∘, join-add, join-only, join-zeros, join-map}
-use Rattle.masking.proofs.Encryption.{encryption-blocks, encryption-joins, plain-encrypts}
+use Rattle.masking.proofs.{Shape.Reads, Encryption.encryption-blocks, Encryption.encryption-joins, Encryption.plain-encrypts}
 use Rattle.runs.specs.Run.{Run, outputOf}
 use Rattle.runs.proofs.Run.{output-join}
 use Rattle.calls.specs.Numbered.{Call, ctr, sub, mac, callNumber, callOf, callCount, ofKey, tapeNeed}
-use Rattle.calls.specs.Sealed.{cut, completed, subkey, macBlock, chain, inputFrom}
-use Rattle.calls.specs.Sealed.{sealingCalls, ctrOut, tagShares, ciphertext, sealedRecord}
-use Rattle.calls.specs.Plain.{plainInput}
-use Rattle.calls.specs.Used.{PlainCallsUsed}
+use Rattle.calls.specs.Sealed.{cut, completed, subkey, macBlock, chain, inputFrom, sealingCalls, ctrOut, tagShares, ciphertext}
+use Rattle.calls.specs.Sealed.{sealedRecord}
 use Rattle.calls.specs.Demand.{Formed, joinedKE, joinedKM}
+use Rattle.calls.specs.{Plain.plainInput, Used.PlainCallsUsed}
 use Rattle.calls.proofs.Numbered.{call-ctr, call-sub, call-mac, call-last, number-low, number-call}
 use Rattle.calls.proofs.Shape.{ke-block, km-block, cut-block, completed-whole}
 use Rattle.calls.proofs.Shape.{completed-short, completed-block, sealing-placed, sealing-blocks}

@@ -1,40 +1,27 @@
 -- What the reports of an accepted sealing show: its lanes, what they join to, and the tag's shares made of them.
 -- Assumes nothing.
-use mathlib.Core.Path.{_≡_, refl, sym, ap, ap₂, _∙_}
-use mathlib.Core.List.{List, [], _∷_}
-use Prim.Native.Nat.{ℕ, zero, suc, _+_, _-_, _*_, _%_, _≤_, _<_}
-use native.Mathlib.Omega.{arith}
-use lib.ListN.{length, replicate}
-use Rattle.blocks.specs.Bytes.{Bytes, _⊕_}
-use Rattle.blocks.specs.Put.{part, put}
+use Rattle.prelude.proofs.{_≡_, refl, sym, ap, ap₂, _∙_, List, [], _∷_, ℕ, zero, suc, _+_, _-_, _*_, _%_, _≤_, _<_, arith, length}
+use Rattle.prelude.proofs.{replicate}
+use Rattle.blocks.specs.Bytes.{Bytes, _⊕_, part, put, blockCount}
 use Rattle.blocks.proofs.Parts.{put-whole}
 use Rattle.baksheesh.specs.Baksheesh.{rounds, after, rotated}
 use Rattle.answers.specs.Answer.{done}
 use Rattle.answers.proofs.First.{if-done}
-use Rattle.modes.specs.Pieces.{blockCount}
-use Rattle.links.specs.Record.{standard, recordSize}
-use Rattle.links.specs.declared.Sender.{Sender}
-use Rattle.masking.specs.Shares.{flat, next, isFirst, Shares, Blocks, join}
-use Rattle.masking.specs.Tape.{at, pairSize, masksAt}
-use Rattle.masking.specs.Stages.{lane}
-use Rattle.masking.specs.Call.{encryption, pairCount}
-use Rattle.masking.specs.OneTape.{roundOnLane, ExactlyOne}
-use Rattle.masking.proofs.Shape.{Reads}
-use Rattle.masking.proofs.Tape.{at-reads}
+use Rattle.links.specs.{Record.standard, Record.recordSize, declared.Sender.Sender}
+use Rattle.masking.specs.Shares.{flat, next, isFirst, Shares, Blocks, join, at, pairSize, masksAt}
+use Rattle.masking.specs.{Stages.lane, Call.encryption, Call.pairCount, OneTape.roundOnLane, OneTape.ExactlyOne}
 use Rattle.masking.proofs.Lane.{first-part, second-part, third-part, parts-length}
 use Rattle.masking.proofs.Encryption.{encryption-blocks, encryption-joins, encryption-turns, plain-after, lane-follows, call-lane}
-use Rattle.masking.proofs.MaskedCall.{one-accepted}
+use Rattle.masking.proofs.{Shape.Reads, Tape.at-reads, MaskedCall.one-accepted}
 use Rattle.runs.specs.Run.{Run, keyShares, inputOf, outputOf, laneOf}
 use Rattle.runs.proofs.Run.{Placed, RunBlocks, key-blocks, input-blocks, output-blocks, states-join, keys-join, lane-length, lane-twice}
 use Rattle.runs.proofs.OneTape.{one-tape-run}
 use Rattle.calls.specs.Numbered.{callOf, callCount, callAt, tapeNeed, keyAt, ofKey}
-use Rattle.calls.specs.Sealed.{sealingCalls, tagShares}
-use Rattle.calls.specs.Plain.{plainInput, plainState, plainKey}
 use Rattle.calls.specs.Entry.{sealAnswer, sealShares, laneSize, indexOf}
-use Rattle.calls.specs.Demand.{Formed, Accepted, AcceptedSealing, joinedKE, joinedKM, shown, masksOf, SameLane, Joined}
-use Rattle.calls.proofs.Shape.{sealing-placed, sealing-blocks}
-use Rattle.calls.proofs.Joins.{given-join, sealing-joins}
+use Rattle.calls.specs.Demand.{Accepted, AcceptedSealing, joinedKE, joinedKM, shown, masksOf, SameLane, Joined}
+use Rattle.calls.specs.{Sealed.sealingCalls, Sealed.tagShares, Plain.plainInput, Plain.plainState, Plain.plainKey}
 use Rattle.calls.proofs.Accepted.{Sealable, accepted, values, sealable, room, reported}
+use Rattle.calls.proofs.{Shape.sealing-placed, Shape.sealing-blocks, Joins.given-join, Joins.sealing-joins}
 
 index-next : (i : ℕ) → i < 3 → indexOf ((i + 1) % 3) ≡ next (indexOf i)
 index-next zero l = refl

@@ -1,12 +1,7 @@
 -- The numbers of a sealing's calls, and where their masks stand on the tape. Assumes nothing.
-use mathlib.Core.Path.{_≡_, refl, ap}
-use Prim.Native.Nat.{ℕ, _+_, _*_, _≤_, _<_}
-use native.Mathlib.Decide.{decLe}
-use native.Mathlib.Omega.{arith}
-use borrow.Author.Tests.{le-leb, lt-leb, eq-eqb, ne-eqb}
-use Rattle.modes.specs.Pieces.{blockCount}
-use Rattle.masking.specs.Tape.{pairSize}
-use Rattle.masking.specs.Call.{pairCount}
+use Rattle.prelude.proofs.{_≡_, refl, ap, ℕ, _+_, _*_, _≤_, _<_, decLe, arith, le-leb, lt-leb, eq-eqb, ne-eqb}
+use Rattle.blocks.specs.Bytes.{blockCount}
+use Rattle.masking.specs.{Shares.pairSize, Call.pairCount}
 use Rattle.calls.specs.Numbered.{Call, ctr, sub, mac, callNumber, callOf, callCount, keyAt, tapeNeed}
 use Rattle.calls.specs.Demand.{masksOf}
 

@@ -1,33 +1,21 @@
 -- Probe-proof: any lane of any round of any call fits every key alike; lanes join to the plain cipher's state and key; each tag
 -- share is round 35 done on its lane alone. Assumes nothing.
-use mathlib.Core.Path.{_≡_, sym, ap, _∙_}
-use mathlib.Core.List.{List}
-use Prim.Native.Nat.{ℕ, _+_, _-_, _*_, _%_, _≤_, _<_}
-use native.Mathlib.Omega.{arith}
-use lib.ListN.{length, take}
-use Rattle.blocks.specs.Bytes.{_⊕_}
-use Rattle.blocks.specs.Put.{part, put}
+use Rattle.prelude.proofs.{_≡_, sym, ap, _∙_, List, ℕ, _+_, _-_, _*_, _%_, _≤_, _<_, arith, length, take}
+use Rattle.blocks.specs.Bytes.{_⊕_, part, put, blockCount}
 use Rattle.baksheesh.specs.Baksheesh.{rounds}
-use Rattle.modes.specs.Pieces.{blockCount}
 use Rattle.links.specs.declared.Sender.{Sender}
-use Rattle.masking.specs.Shares.{next, isFirst}
-use Rattle.masking.specs.Tape.{at, masksAt}
-use Rattle.masking.specs.Stages.{state, lane}
-use Rattle.masking.specs.Call.{encryption, pairCount}
-use Rattle.masking.specs.OneTape.{ExactlyOne, roundOnLane}
-use Rattle.masking.proofs.Causal.{Agree, state-agree}
-use Rattle.masking.proofs.Tape.{take-agree}
+use Rattle.masking.specs.Shares.{next, isFirst, at, masksAt}
+use Rattle.masking.specs.{Stages.state, Stages.lane, Call.encryption, Call.pairCount, OneTape.ExactlyOne, OneTape.roundOnLane}
+use Rattle.masking.proofs.{Causal.Agree, Causal.state-agree, Tape.take-agree}
 use Rattle.answers.specs.Answer.{numberOf, Accepts}
 use Rattle.answers.proofs.First.{if-done}
-use Rattle.calls.specs.Numbered.{callCount, callAt}
-use Rattle.runs.specs.Run.{keyShares, inputOf, laneOf}
-use Rattle.runs.proofs.Run.{key-agree, input-agree}
-use Rattle.calls.specs.Sealed.{sealingCalls}
 use Rattle.calls.specs.Entry.{sealShares, laneSize, reportAnswer, reportOutput, indexOf}
 use Rattle.calls.specs.Demand.{AcceptedSealing, shown, masksOf, SameLane, Joined}
-use Rattle.calls.proofs.Shape.{sealing-placed}
-use Rattle.calls.proofs.Accepted.{reported}
+use Rattle.calls.specs.{Numbered.callCount, Numbered.callAt, Sealed.sealingCalls}
+use Rattle.runs.specs.Run.{keyShares, inputOf, laneOf}
+use Rattle.runs.proofs.Run.{key-agree, input-agree}
 use Rattle.calls.proofs.Lanes.{can-seal, shown-lane, joined, followed, tag-lane, exactly-one}
+use Rattle.calls.proofs.{Shape.sealing-placed, Accepted.reported}
 
 -- two accepted sealings of equal message length, whatever their links, keys, texts and tapes; any lane of any round of any call:
 -- exactly one tape, differing from the first's only in that round's 32 mask bytes and the lane's 16 key mask bytes, makes the second

@@ -1,40 +1,28 @@
 -- Shared and plain sealing agree: the record, the answer, the output; numbers rise by one; the rest of a longer tape is unread.
 -- Assumes nothing.
-use mathlib.Core.Path.{_≡_, sym, ap, ap₂, _∙_}
-use mathlib.Core.List.{List, [], _∷_, _++_}
-use Prim.Native.Nat.{ℕ, _+_, _≤_}
-use native.Mathlib.Omega.{arith}
-use lib.ListN.{length, take, replicate, length-append, length-take}
-use lib.Seq.{take-at, drop-at, take-all}
-use Rattle.blocks.specs.Bytes.{_⊕_}
-use Rattle.blocks.specs.Put.{part, put}
+use Rattle.prelude.proofs.{_≡_, sym, ap, ap₂, _∙_, List, [], _∷_, _++_, ℕ, _+_, _≤_, arith, length, take, replicate, length-append}
+use Rattle.prelude.proofs.{length-take, take-at, drop-at, take-all}
+use Rattle.blocks.specs.Bytes.{_⊕_, part, put, blockCount}
 use Rattle.blocks.proofs.Parts.{part-part}
 use Rattle.answers.specs.Answer.{done}
 use Rattle.answers.proofs.First.{if-done}
 use Rattle.baksheesh.specs.Baksheesh.{encrypt}
 use Rattle.baksheesh.proofs.Inverse.{encrypt-block}
-use Rattle.modes.specs.Pieces.{blockCount}
 use Rattle.modes.proofs.Ctr.{ctr-same}
 use Rattle.links.specs.Record.{standard, recordSize, recordOf, sequenceIn}
-use Rattle.links.specs.Links.{senderOf}
-use Rattle.links.specs.declared.Sender.{Sender}
-use Rattle.plain.specs.Plain.{plainRecord}
-use Rattle.plain.specs.Entry.{plainAnswer, plainOutput}
+use Rattle.links.specs.{Links.senderOf, declared.Sender.Sender}
+use Rattle.plain.specs.{Plain.plainRecord, Entry.plainAnswer, Entry.plainOutput}
 use Rattle.plain.proofs.Sealed.{plain-sequence}
-use Rattle.masking.specs.Shares.{Shares, join, sharesIn, flat}
-use Rattle.masking.specs.Tape.{at}
-use Rattle.masking.proofs.Causal.{Agree}
-use Rattle.masking.proofs.Tape.{take-agree}
-use Rattle.calls.specs.Numbered.{callCount, tapeNeed}
-use Rattle.runs.proofs.Run.{output-agree, lane-agrees}
-use Rattle.calls.specs.Sealed.{ciphertext, tagShares, sealedRecord}
+use Rattle.masking.specs.Shares.{Shares, join, sharesIn, flat, at}
+use Rattle.masking.proofs.{Causal.Agree, Tape.take-agree}
 use Rattle.calls.specs.Entry.{advanced, sealAnswer, sealLink, sealOutput, laneSize, indexOf}
 use Rattle.calls.specs.Demand.{Accepted, AcceptedSealing, joinedKE, joinedKM, SameSealing}
+use Rattle.calls.specs.{Numbered.callCount, Numbered.tapeNeed, Sealed.ciphertext, Sealed.tagShares, Sealed.sealedRecord}
+use Rattle.runs.proofs.Run.{output-agree, lane-agrees}
 use Rattle.calls.proofs.Shape.{ke-block, km-block, sealing-placed}
-use Rattle.calls.proofs.Joins.{record-join}
 use Rattle.calls.proofs.Accepted.{values, sealable, reported, plain-done}
 use Rattle.calls.proofs.Lanes.{can-seal, returned, reads, accepted-with}
-use Rattle.calls.proofs.Total.{advanced-formed}
+use Rattle.calls.proofs.{Joins.record-join, Total.advanced-formed}
 
 -- ---- shared and plain sealing
 

@@ -1,21 +1,11 @@
 -- The calls of a sealing are a run: their masks are placed, and every share is a block. Assumes nothing.
-use mathlib.Core.Path.{_≡_}
-use mathlib.Core.Bool.{Bool, true, false, cond}
-use mathlib.Core.List.{List}
-use Prim.Native.Nat.{ℕ, zero, suc, _+_, _-_, _≤_}
-use native.Mathlib.Decide.{decLt}
-use native.Mathlib.Omega.{arith}
-use lib.ListN.{length, take, replicate, length-append, length-take, length-replicate}
-use borrow.Author.Tests.{eq-eqb, ne-eqb}
-use Rattle.blocks.specs.Bytes.{Bytes, Block}
-use Rattle.blocks.specs.Put.{part}
+use Rattle.prelude.proofs.{_≡_, Bool, true, false, cond, List, ℕ, zero, suc, _+_, _-_, _≤_, decLt, arith, length, take, replicate}
+use Rattle.prelude.proofs.{length-append, length-take, length-replicate, eq-eqb, ne-eqb}
+use Rattle.blocks.specs.Bytes.{Bytes, Block, part, blockCount, piece}
 use Rattle.blocks.proofs.Xor.{⊕-block, bytes-take, bytes-append, bytes-replicate, zeros-block}
 use Rattle.blocks.proofs.Parts.{part-length, part-bytes}
-use Rattle.modes.specs.Pieces.{blockCount, piece}
 use Rattle.modes.specs.Cmac.{padded}
-use Rattle.modes.proofs.Pieces.{piece-le, piece-bytes}
-use Rattle.modes.proofs.Cmac.{padded-block}
-use Rattle.modes.proofs.Doubled.{doubled-block}
+use Rattle.modes.proofs.{Pieces.piece-le, Pieces.piece-bytes, Cmac.padded-block, Doubled.doubled-block}
 use Rattle.links.proofs.Record.{counter-block}
 use Rattle.links.specs.declared.Sender.{Sender}
 use Rattle.masking.specs.Shares.{Index, Shares, Blocks, sharesIn}

@@ -1,29 +1,19 @@
 -- When sealing and the report are accepted, what they return then, and that each refusal has exactly its cause and changes nothing.
 -- Assumes nothing.
-use mathlib.Core.Path.{_≡_, refl, sym}
-use mathlib.Core.Bool.{true}
-use mathlib.Core.List.{List, [], _∷_}
-use mathlib.Core.Logic.{_↔_}
-use Prim.Native.Nat.{ℕ, _+_, _^_, _≤_, _<_}
-use native.Mathlib.Decide.{decLt}
-use native.Mathlib.Omega.{arith}
-use lib.ListN.{length, replicate, length-replicate}
-use Rattle.blocks.specs.Bytes.{Bytes}
-use Rattle.blocks.specs.Put.{put}
+use Rattle.prelude.proofs.{_≡_, refl, sym, _↔_, true, List, [], _∷_, ℕ, _+_, _^_, _≤_, _<_, decLt, arith, length, replicate}
+use Rattle.prelude.proofs.{length-replicate}
+use Rattle.blocks.specs.Bytes.{Bytes, put}
 use Rattle.blocks.proofs.Parts.{part-length, part-bytes}
 use Rattle.answers.specs.Answer.{done, refused, FirstOf}
 use Rattle.answers.proofs.First.{if-refused, refused-exactly}
 use Rattle.links.specs.Record.{standard, numberSize, greatest, longest, recordSize}
-use Rattle.links.specs.Links.{senderKeys, senderOf}
-use Rattle.links.specs.declared.Sender.{Sender}
-use Rattle.masking.specs.Tape.{at}
-use Rattle.calls.specs.Numbered.{tapeNeed}
-use Rattle.masking.specs.Call.{encryption}
-use Rattle.runs.specs.Run.{laneOf}
-use Rattle.calls.specs.Sealed.{sealingCalls, sealedRecord}
-use Rattle.calls.specs.Entry.{sealCauses, sealAnswer, sealLink, advanced, sealOutput}
-use Rattle.calls.specs.Entry.{reportCauses, reportAnswer, reportOutput, indexOf}
+use Rattle.links.specs.{Links.senderKeys, Links.senderOf, declared.Sender.Sender}
+use Rattle.masking.specs.{Shares.at, Call.encryption}
+use Rattle.calls.specs.Entry.{sealCauses, sealAnswer, sealLink, advanced, sealOutput, reportCauses, reportAnswer, reportOutput}
+use Rattle.calls.specs.Entry.{indexOf}
 use Rattle.calls.specs.Demand.{Formed, Accepted, AcceptedSealing}
+use Rattle.calls.specs.{Numbered.tapeNeed, Sealed.sealingCalls, Sealed.sealedRecord}
+use Rattle.runs.specs.Run.{laneOf}
 use Rattle.calls.proofs.Accepted.{accepted, values, sealable, room}
 
 -- ---- accepted

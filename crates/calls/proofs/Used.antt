@@ -1,29 +1,19 @@
 -- The numbered calls, whose lanes are reported, are the ones that sealing uses, on shares and plainly. Assumes nothing.
-use mathlib.Core.Path.{_≡_, refl, ap, _∙_}
-use mathlib.Core.List.{List}
-use Prim.Native.Nat.{ℕ, _-_}
-use native.Mathlib.Omega.{arith}
-use lib.ListN.{length}
-use borrow.Author.Tests.{eq-eqb, ne-eqb}
-use Rattle.blocks.specs.Bytes.{Block, _⊕_, zeros}
+use Rattle.prelude.proofs.{_≡_, refl, ap, _∙_, List, ℕ, _-_, arith, length, eq-eqb, ne-eqb}
+use Rattle.blocks.specs.Bytes.{Block, _⊕_, zeros, blockCount, piece}
 use Rattle.baksheesh.specs.Baksheesh.{encrypt}
 use Rattle.baksheesh.proofs.Inverse.{encrypt-block}
-use Rattle.modes.specs.Pieces.{blockCount, piece}
 use Rattle.modes.specs.Cmac.{macCount, subkey₁, lastBlock, cmac}
 use Rattle.modes.specs.Cmac as Cmac
-use Rattle.modes.proofs.Pieces.{macCount-behind}
-use Rattle.modes.proofs.Ctr.{ctr-length, piece-ctr, ctrPiece-⊕}
-use Rattle.links.specs.Record.{counterBlock}
-use Rattle.links.specs.declared.Sender.{Sender}
+use Rattle.modes.proofs.{Pieces.macCount-behind, Ctr.ctr-length, Ctr.piece-ctr, Ctr.ctrPiece-⊕}
+use Rattle.links.specs.{Record.counterBlock, declared.Sender.Sender}
 use Rattle.links.proofs.Record.{counter-block}
 use Rattle.plain.specs.Plain.{crypted, authenticated}
-use Rattle.masking.specs.Tape.{Reader}
-use Rattle.masking.specs.Call.{encryption}
+use Rattle.masking.specs.{Shares.Reader, Call.encryption}
 use Rattle.runs.specs.Run.{outputs, inputOf, outputOf}
 use Rattle.runs.proofs.Run.{output-at}
 use Rattle.calls.specs.Sealed.{sealingCalls, ciphertext, sealedRecord}
-use Rattle.calls.specs.Plain.{plainInput}
-use Rattle.calls.specs.Used.{CallsUsed, PlainCallsUsed}
+use Rattle.calls.specs.{Plain.plainInput, Used.CallsUsed, Used.PlainCallsUsed}
 
 pub calls-used : (x : Sender) (m : List ℕ) (M : Reader) → CallsUsed x m M
 unfolding outputOf inputOf ciphertext sealedRecord

@@ -4,14 +4,11 @@ use mathlib.Core.Path.{_≡_}
 use mathlib.Core.List.{List}
 use Prim.Native.Nat.{ℕ, _+_, _-_, _*_, _%_, _^_, _≤_, _<_}
 use lib.ListN.{length, replicate}
-use Rattle.blocks.specs.Bytes.{Bytes, _⊕_}
-use Rattle.blocks.specs.Put.{part}
+use Rattle.blocks.specs.Bytes.{Bytes, _⊕_, part, blockCount}
 use Rattle.answers.specs.Answer.{Accepts}
-use Rattle.modes.specs.Pieces.{blockCount}
 use Rattle.links.specs.Record.{standard, numberSize}
 use Rattle.links.specs.declared.Sender.{Sender}
-use Rattle.masking.specs.Shares.{join, sharesIn}
-use Rattle.masking.specs.Tape.{pairSize}
+use Rattle.masking.specs.Shares.{join, sharesIn, pairSize}
 use Rattle.masking.specs.Call.{pairCount}
 use Rattle.masking.specs.OneTape.{laneMask, Shows}
 use Rattle.calls.specs.Numbered.{callOf, callCount, keyAt, callAt}

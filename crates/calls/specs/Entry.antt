@@ -6,11 +6,10 @@ use Prim.Native.Nat.{ℕ, zero, suc, _+_}
 use lib.Dec.{eqb, ltb}
 use lib.ListN.{length, replicate}
 use Rattle.answers.specs.Answer.{Answer, done, Cause, _when_, first, ifDone, output}
-use Rattle.modes.specs.Pieces.{blockCount}
+use Rattle.blocks.specs.Bytes.{blockCount}
 use Rattle.links.specs.Record.{standard, greatest, longest, recordSize}
 use Rattle.links.specs.declared.Sender.{Sender}
-use Rattle.masking.specs.Shares.{Index, i₀, i₁, i₂, flat}
-use Rattle.masking.specs.Tape.{at}
+use Rattle.masking.specs.Shares.{Index, i₀, i₁, i₂, flat, at}
 use Rattle.masking.specs.Call.{encryption, pairCount}
 use Rattle.runs.specs.Run.{laneOf}
 use Rattle.calls.specs.Numbered.{callCount, tapeNeed}

@@ -3,8 +3,8 @@
 use mathlib.Core.Bool.{cond}
 use Prim.Native.Nat.{ℕ, _+_, _-_, _*_}
 use lib.Dec.{eqb, leb}
-use Rattle.modes.specs.Pieces.{blockCount}
-use Rattle.masking.specs.Tape.{pairSize}
+use Rattle.blocks.specs.Bytes.{blockCount}
+use Rattle.masking.specs.Shares.{pairSize}
 use Rattle.masking.specs.Call.{callSize}
 
 -- CTR of block j, the subkeys', CMAC of block j, counted from 0

@@ -4,9 +4,8 @@ use mathlib.Core.List.{List}
 use Prim.Native.Nat.{ℕ, _-_}
 use lib.Dec.{eqb}
 use lib.ListN.{length}
-use Rattle.blocks.specs.Bytes.{_⊕_, zeros}
+use Rattle.blocks.specs.Bytes.{_⊕_, zeros, blockCount, piece}
 use Rattle.baksheesh.specs.Baksheesh.{after, rotated, encrypt}
-use Rattle.modes.specs.Pieces.{blockCount, piece}
 use Rattle.modes.specs.Cmac.{chain, lastBlock}
 use Rattle.links.specs.Record.{counterBlock}
 use Rattle.plain.specs.Plain.{crypted, authenticated}

@@ -4,14 +4,12 @@ use mathlib.Core.List.{List, _++_}
 use Prim.Native.Nat.{ℕ, zero, suc, _+_, _-_, _%_}
 use lib.Dec.{eqb}
 use lib.ListN.{length, take, replicate}
-use Rattle.blocks.specs.Bytes.{zeros}
-use Rattle.modes.specs.Pieces.{blockCount, piece}
+use Rattle.blocks.specs.Bytes.{zeros, blockCount, piece}
 use Rattle.modes.specs.Ctr as Ctr
 use Rattle.modes.specs.Cmac.{doubled, padded}
 use Rattle.links.specs.Record.{standard, counterBlock, recordOf}
 use Rattle.links.specs.declared.Sender.{Sender}
-use Rattle.masking.specs.Shares.{Shares, join, add, each, only, sharesIn}
-use Rattle.masking.specs.Tape.{Reader}
+use Rattle.masking.specs.Shares.{Shares, join, add, each, only, sharesIn, Reader}
 use Rattle.masking.specs.Call.{encryption}
 use Rattle.runs.specs.Run.{Run, outputOf}
 use Rattle.calls.specs.Numbered.{Call, ctr, sub, mac, callNumber, callOf, callCount, ofKey, keyAt, callAt}

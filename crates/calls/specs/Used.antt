@@ -3,17 +3,15 @@ use mathlib.Core.Path.{_≡_}
 use mathlib.Core.List.{List}
 use Prim.Native.Nat.{ℕ, suc, _+_, _≤_, _<_}
 use lib.ListN.{length, take}
-use Rattle.blocks.specs.Bytes.{_⊕_, zeros}
+use Rattle.blocks.specs.Bytes.{_⊕_, zeros, blockCount, piece}
 use Rattle.baksheesh.specs.Baksheesh.{encrypt}
-use Rattle.modes.specs.Pieces.{blockCount, piece}
 use Rattle.modes.specs.Ctr as Ctr
 use Rattle.modes.specs.Cmac.{doubled, subkey₁}
 use Rattle.modes.specs.Cmac as Cmac
 use Rattle.links.specs.Record.{standard, recordOf}
 use Rattle.links.specs.declared.Sender.{Sender}
 use Rattle.plain.specs.Plain.{crypted, authenticated, macOf}
-use Rattle.masking.specs.Shares.{Shares, join}
-use Rattle.masking.specs.Tape.{Reader}
+use Rattle.masking.specs.Shares.{Shares, join, Reader}
 use Rattle.masking.specs.Stages.{call}
 use Rattle.masking.specs.Call.{encryption}
 use Rattle.runs.specs.Run.{keyShares, inputOf, outputOf}

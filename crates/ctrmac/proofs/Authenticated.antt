@@ -1,12 +1,7 @@
 -- CMAC of a text behind counter block 0: of an empty one, and of one that is not; over any block function. Assumes nothing.
-use mathlib.Core.Path.{_≡_, ap, _∙_}
-use mathlib.Core.List.{List, _++_}
-use Prim.Native.Nat.{ℕ, _-_, _/_}
-use native.Mathlib.Omega.{arith}
-use lib.ListN.{length}
-use Rattle.blocks.specs.Bytes.{_⊕_, zeros}
+use Rattle.prelude.proofs.{_≡_, ap, _∙_, List, _++_, ℕ, _-_, _/_, arith, length}
+use Rattle.blocks.specs.Bytes.{_⊕_, zeros, piece}
 use Rattle.blocks.proofs.Xor.{⊕-block, zero-⊕}
-use Rattle.modes.specs.Pieces.{piece}
 use Rattle.modes.specs.Cmac.{subkey₁, lastBlock, chain, cmac}
 use Rattle.modes.proofs.Cmac.{last-whole, subkey₁-block, cmac-alone, cmac-front}
 use Rattle.links.specs.Record.{counterBlock}

@@ -1,14 +1,7 @@
 -- What a block call of any cipher answers and writes. Assumes nothing.
-use mathlib.Core.Path.{_≡_, sym, ap, ap₂, _∙_}
-use mathlib.Core.Bool.{Bool, true, false, not, cond, _&&_}
-use mathlib.Core.List.{List, []}
-use Prim.Native.Nat.{ℕ}
-use native.Mathlib.Omega.{arith}
-use lib.Dec.{eqb}
-use lib.ListN.{length}
-use lib.Seq.{take-all}
-use borrow.Author.Tests.{eqb-true, not-false}
-use Rattle.blocks.specs.Put.{part, put}
+use Rattle.prelude.proofs.{_≡_, sym, ap, ap₂, _∙_, Bool, true, false, not, cond, _&&_, List, [], ℕ, arith, eqb, length, take-all, eqb-true}
+use Rattle.prelude.proofs.{not-false}
+use Rattle.blocks.specs.Bytes.{part, put}
 use Rattle.blocks.proofs.Same.{both-true}
 use Rattle.answers.specs.Answer.{done, refused}
 use Rattle.answers.proofs.First.{if-done, if-refused}

@@ -8,7 +8,7 @@ use opening::Opening;
 use opening::Receiver;
 use opening::ReceiverKeying;
 use plain::PlainAnswer;
-use sealing::ReportAnswer;
+use reporting::ReportAnswer;
 use sealing::Sealing;
 
 // ---- block calls
@@ -65,7 +65,7 @@ pub fn report(
     lane: u32,
     out: &mut [u8],
 ) -> ReportAnswer {
-    sealing::report(link, message, tape, call, round, lane, out)
+    reporting::report(link, message, tape, call, round, lane, out)
 }
 
 pub fn open(link: Receiver, sealed: &[u8], out: &mut [u8]) -> Opening {

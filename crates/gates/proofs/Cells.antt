@@ -1,10 +1,5 @@
 -- A step that makes each cell from its own four bits, on a block in packed form. Assumes nothing.
-use mathlib.Core.Path.{_≡_}
-use mathlib.Core.Bool.{Bool}
-use mathlib.Core.List.{List}
-use Prim.Native.Nat.{ℕ}
-use native.Mathlib.Omega.{arith}
-use lib.ListN.{getD}
+use Rattle.prelude.proofs.{_≡_, Bool, List, ℕ, arith, getD}
 use Rattle.bits.specs.Bit.{bit}
 use Rattle.blocks.specs.Bits.{cells, eachCell}
 use Rattle.blocks.proofs.ByBits.{cells-same}

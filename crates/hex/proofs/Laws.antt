@@ -1,12 +1,7 @@
 -- Lengths of hexadecimal texts, and a loop that writes the digits of a byte a turn. Assumes nothing.
-use mathlib.Core.Path.{_≡_, refl, ap, sym, _∙_}
-use mathlib.Core.List.{List, [], _∷_, _++_}
-use Prim.Native.Nat.{ℕ, _+_, _*_, _/_, _%_, _≤_, _<_}
-use native.Mathlib.Numerals.{add-one}
-use native.Mathlib.Omega.{arith}
-use lib.ListN.{length, take, set, getD}
-use lib.Seq.{length-take-le, take-suc, take-all}
-use Rattle.blocks.specs.Put.{put}
+use Rattle.prelude.proofs.{_≡_, refl, ap, sym, _∙_, List, [], _∷_, _++_, ℕ, _+_, _*_, _/_, _%_, _≤_, _<_, add-one, arith, length, take, set}
+use Rattle.prelude.proofs.{getD, length-take-le, take-suc, take-all}
+use Rattle.blocks.specs.Bytes.{put}
 use Rattle.blocks.proofs.Parts.{put-none, put-length, put-put, put-set, put-one}
 use Rattle.hex.specs.Hex.{glyph, hexOf}
 

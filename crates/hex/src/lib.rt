@@ -3,7 +3,7 @@ ghost use mathlib.Core.Path.{_≡_};
 ghost use mathlib.Core.List.{[], _∷_};
 ghost use Prim.Native.Nat.{_+_, _*_, _/_, _%_, _≤_, _<_};
 ghost use lib.ListN.{length};
-ghost use Rattle.blocks.specs.Put.{put};
+ghost use Rattle.blocks.specs.Bytes.{put};
 ghost use Rattle.hex.specs.Hex.{glyph, hexOf};
 
 fn digit(d: u8) -> u8

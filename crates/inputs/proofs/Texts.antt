@@ -1,26 +1,14 @@
 -- The ciphertext's blocks in shares, as they are made: cut, completed, joined; the last block's subkey. Assumes nothing.
-use mathlib.Core.Path.{_≡_, sym, ap, ap₂, _∙_}
-use mathlib.Core.Bool.{Bool, cond}
-use mathlib.Core.List.{List, _++_}
-use Prim.Native.Nat.{ℕ, suc, _+_, _-_, _*_, _%_, _≤_}
-use native.Mathlib.Omega.{arith}
-use lib.Dec.{eqb}
-use lib.ListN.{length, drop, replicate}
-use lib.Seq.{take-take}
-use borrow.Author.Tests.{eq-eqb, ne-eqb}
-use Rattle.blocks.specs.Bytes.{_⊕_, zeros}
-use Rattle.blocks.specs.Put.{part, put}
-use Rattle.blocks.proofs.Xor.{⊕-zero}
-use Rattle.blocks.proofs.Parts.{part-length, part-part, put-zeros}
+use Rattle.prelude.proofs.{_≡_, sym, ap, ap₂, _∙_, Bool, cond, List, _++_, ℕ, suc, _+_, _-_, _*_, _%_, _≤_, arith, eqb, length, drop}
+use Rattle.prelude.proofs.{replicate, take-take, eq-eqb, ne-eqb}
+use Rattle.blocks.specs.Bytes.{_⊕_, zeros, part, put, piece}
+use Rattle.blocks.proofs.{Xor.⊕-zero, Parts.part-length, Parts.part-part, Parts.put-zeros}
 use Rattle.words.specs.Words.{unpacked}
 use Rattle.words.proofs.Words.{unpacked-block}
-use Rattle.modes.specs.Pieces.{piece}
 use Rattle.modes.specs.Cmac.{doubled}
-use Rattle.links.specs.Record.{counterBlock}
-use Rattle.links.specs.declared.Sender.{Sender}
-use Rattle.shares.specs.declared.Triple.{Triple}
+use Rattle.links.specs.{Record.counterBlock, declared.Sender.Sender}
+use Rattle.shares.specs.{declared.Triple.Triple, Packed.sharesOf}
 use Rattle.masking.specs.Shares.{Shares, each, only, sharesIn}
-use Rattle.shares.specs.Packed.{sharesOf}
 use Rattle.masking.proofs.Shape.{shares-same}
 use Rattle.calls.specs.Sealed.{cut, completed, lastKey, textBlock}
 use Rattle.inputs.specs.Inputs.{blockShares}

@@ -1,8 +1,7 @@
 -- Where the output shares of CTR's calls stand, and CMAC's blocks made of them. Assumes nothing.
 use mathlib.Core.List.{List}
 use Prim.Native.Nat.{ℕ, zero, suc, _+_, _*_}
-use Rattle.blocks.specs.Put.{part}
-use Rattle.modes.specs.Pieces.{blockCount}
+use Rattle.blocks.specs.Bytes.{part, blockCount}
 use Rattle.links.specs.Record.{longest, counterBlock}
 use Rattle.links.specs.declared.Sender.{Sender}
 use Rattle.masking.specs.Shares.{Shares, only, sharesIn}

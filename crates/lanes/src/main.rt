@@ -1,18 +1,21 @@
 // Shared sealing and the lane report: records, tag shares, lanes and refusals.
 use links::Sender;
 use sealing::SealAnswer;
-
-// Prints the number that sealing gives.
-fn try_seal(what: &[u8], link: Sender, message: &[u8], tape: &[u8], out: &mut [u8]) {
-    let sealed = sealing::seal(link, message, tape, out);
-    let answer = sealed.answer;
-    show::tried(what, answer.number() as u64);
-}
+ghost use Prim.Native.Nat.{_≤_};
+ghost use lib.ListN.{length};
 
 // Prints the number that the report of lane 0 of round 1 of a call gives.
 fn try_report(what: &[u8], link: Sender, message: &[u8], tape: &[u8], call: u32, out: &mut [u8]) {
-    let answer = sealing::report(link, message, tape, call, 1, 0, out);
+    let answer = reporting::report(link, message, tape, call, 1, 0, out);
     show::tried(what, answer.number() as u64);
+}
+
+// The tape bytes that a message of n bytes needs.
+fn need(n: usize) -> usize
+    requires { ⌜ n ≤ 256 ⌝ }
+    ensures { λ r. ⌜ r ≤ 38144 ⌝ }
+{
+    64 + 1120 * (2 * ((n + 15) / 16) + 2)
 }
 
 // Prints the record of a message, its tag's shares and how much of the tape was read.
@@ -22,21 +25,29 @@ fn seal(link: Sender, message: &[u8], tape: &[u8]) -> Sender {
     let answer = sealed.answer;
     let shares = sealed.shares;
     if let SealAnswer::Sealed { len, used } = answer {
-        show::word(b"seal");
+        show::word(b"seal ");
         show::number(message.len() as u64);
         show::front(&record, len);
-        show::word(b"shares");
+        show::word(b"shares ");
         show::bytes(&shares);
-        show::tried(b"used", used as u64);
+        show::tried(b"used ", used as u64);
     }
     let next = sealed.link;
     next
 }
 
+// Seals the first n bytes of a message with a tape that is `more` bytes longer than it needs.
+fn seal_first(link: Sender, message: &[u8], n: usize, tape: &[u8], more: usize) -> Sender
+    requires { ⌜ (n ≤ 256) × (more ≤ 1) × (256 ≤ length (now message)) × (38145 ≤ length (now tape)) ⌝ }
+{
+    let t = need(n) + more;
+    seal(link, &message[..n], &tape[..t])
+}
+
 fn lane(link: Sender, message: &[u8], tape: &[u8], call: u32, round: u32, lane: u32) {
     let mut out = [0u8; 48];
-    sealing::report(link, message, tape, call, round, lane, &mut out);
-    show::word(b"lane");
+    reporting::report(link, message, tape, call, round, lane, &mut out);
+    show::word(b"lane ");
     show::number(message.len() as u64);
     show::number(call as u64);
     show::number(round as u64);
@@ -44,49 +55,44 @@ fn lane(link: Sender, message: &[u8], tape: &[u8], call: u32, round: u32, lane: 
     show::bytes(&out);
 }
 
-fn three_lanes(link: Sender, message: &[u8], tape: &[u8], call: u32, round: u32) {
-    lane(link, message, tape, call, round, 0);
-    lane(link, message, tape, call, round, 1);
-    lane(link, message, tape, call, round, 2);
+// The three lanes of the first round of a call, of one in the middle and of the last.
+fn lanes(link: Sender, message: &[u8], tape: &[u8], call: u32) {
+    for k in 0..9u32 {
+        lane(link, message, tape, call, 1 + 17 * (k / 3), k % 3);
+    }
 }
 
-// The first round of a call, one in the middle and the last.
-fn three_rounds(link: Sender, message: &[u8], tape: &[u8], call: u32) {
-    three_lanes(link, message, tape, call, 1);
-    three_lanes(link, message, tape, call, 18);
-    three_lanes(link, message, tape, call, 35);
-}
-
-fn refused_seals(link: Sender) {
-    let mut out = [0u8; 281];
-    let mut short_out = [0u8; 23];
-    let tape = [0u8; 2304];
-    let short_tape = [0u8; 2303];
-    let long_message = [0u8; 257];
-    try_seal(b"seal tape one short", link, b"", &short_tape, &mut out);
-    try_seal(b"seal 257 bytes", link, &long_message, &tape, &mut out);
-    try_seal(b"seal not keyed", Sender::fresh(), b"", &tape, &mut out);
-    try_seal(b"seal output one short", link, b"", &tape, &mut short_out);
+// The length of message i.
+fn length(i: usize) -> usize
+    ensures { λ r. ⌜ r ≤ 256 ⌝ }
+{
+    match i {
+        0 => 0,
+        1 => 1,
+        2 => 15,
+        3 => 16,
+        4 => 17,
+        5 => 48,
+        _ => 256,
+    }
 }
 
 fn refused_reports(link: Sender) {
     let mut out = [0u8; 48];
     let mut short_out = [0u8; 47];
     let tape = [0u8; 2304];
-    let short_tape = [0u8; 2303];
-    let long_message = [0u8; 257];
     try_report(
-        b"report tape one short",
+        b"report tape one short ",
         link,
         b"",
-        &short_tape,
+        &[0; 2303],
         1,
         &mut out,
     );
-    try_report(b"report call 3", link, b"", &tape, 3, &mut out);
-    try_report(b"report 257 bytes", link, &long_message, &tape, 1, &mut out);
+    try_report(b"report call 3 ", link, b"", &tape, 3, &mut out);
+    try_report(b"report 257 bytes ", link, &[0; 257], &tape, 1, &mut out);
     try_report(
-        b"report not keyed",
+        b"report not keyed ",
         Sender::fresh(),
         b"",
         &tape,
@@ -94,7 +100,7 @@ fn refused_reports(link: Sender) {
         &mut out,
     );
     try_report(
-        b"report output one short",
+        b"report output one short ",
         link,
         b"",
         &tape,
@@ -103,62 +109,36 @@ fn refused_reports(link: Sender) {
     );
 }
 
-// Seals the first n bytes of a message with the first t of a tape.
-fn seal_first(link: Sender, message: &[u8], n: usize, tape: &[u8], t: usize) -> Sender {
-    if message.len() < n {
-        return link;
-    }
-    if tape.len() < t {
-        return link;
-    }
-    seal(link, &message[..n], &tape[..t])
-}
-
-// The lanes of a call, of the first n bytes of a message with the first t of a tape.
-fn report_first(link: Sender, message: &[u8], n: usize, tape: &[u8], t: usize, call: u32) {
-    if message.len() < n {
-        return;
-    }
-    if tape.len() < t {
-        return;
-    }
-    three_rounds(link, &message[..n], &tape[..t], call);
-}
-
-// Every tape is as long as its sealing needs.
-fn seals(keys: &[u8], message: &[u8], tape: &[u8]) -> Sender {
-    let keying = Sender::fresh().key(0x01020304, keys);
-    let fresh = keying.link;
-    let a = seal_first(fresh, message, 0, tape, 2304);
-    let b = seal_first(a, message, 1, tape, 4544);
-    let c = seal_first(b, message, 15, tape, 4544);
-    let d = seal_first(c, message, 16, tape, 4544);
-    let e = seal_first(d, message, 17, tape, 6784);
-    let f = seal_first(e, message, 48, tape, 9024);
-    seal_first(f, message, 256, tape, 38144)
-}
-
 // Lanes of the first call, of the one behind CTR's and of the last.
-// Then a record by its tape, and by a tape that is one byte longer.
-fn reports(link: Sender, message: &[u8], tape: &[u8]) {
-    report_first(link, message, 0, tape, 2304, 1);
-    report_first(link, message, 0, tape, 2304, 2);
-    report_first(link, message, 17, tape, 6784, 1);
-    report_first(link, message, 17, tape, 6784, 3);
-    report_first(link, message, 17, tape, 6784, 6);
-    seal_first(link, message, 0, tape, 2304);
-    seal_first(link, message, 0, tape, 2305);
+fn reports(link: Sender) {
+    let mut message = [0u8; 17];
+    let mut tape = [0u8; 6784];
+    let mut short_tape = [0u8; 2304];
+    show::fill(&mut message, 3, 7);
+    show::fill(&mut tape, 5, 13);
+    show::fill(&mut short_tape, 5, 13);
+    lanes(link, b"", &short_tape, 1);
+    lanes(link, b"", &short_tape, 2);
+    lanes(link, &message, &tape, 1);
+    lanes(link, &message, &tape, 3);
+    lanes(link, &message, &tape, 6);
 }
 
 fn main() {
     let mut keys = [0u8; 96];
     let mut message = [0u8; 256];
-    let mut tape = [0u8; 38144];
+    let mut tape = [0u8; 38145];
     show::fill(&mut keys, 1, 11);
     show::fill(&mut message, 3, 7);
     show::fill(&mut tape, 5, 13);
-    let link = seals(&keys, &message, &tape);
-    reports(link, &message, &tape);
-    refused_seals(link);
+    let keying = Sender::fresh().key(0x01020304, &keys);
+    let mut link = keying.link;
+    for i in 0..7 {
+        let next = seal_first(link, &message, length(i), &tape, 0);
+        link = next;
+    }
+    reports(link);
+    seal_first(link, &message, 0, &tape, 0);
+    seal_first(link, &message, 0, &tape, 1);
     refused_reports(link);
 }

@@ -1,14 +1,11 @@
 -- What keying a link in its bytes returns and leaves. Assumes nothing.
-use mathlib.Core.Path.{_≡_, sym, ap, _∙_}
-use mathlib.Core.List.{List, []}
-use mathlib.Core.Logic.{_↔_}
-use Prim.Native.Nat.{ℕ}
-use native.Mathlib.Omega.{arith}
-use lib.ListN.{length}
-use Rattle.answers.specs.Answer.{Answer, done, refused, numberOf, ifDone, FirstOf}
-use Rattle.answers.proofs.First.{refused-at, refused-exactly, accepts-done, not-accepts, if-done, if-refused, eq-not, ne-not}
-use Rattle.links.specs.Links.{keyAnswer}
-use Rattle.layout.specs.Keying.{keyingCauses, keyingAnswer}
+use Rattle.prelude.proofs.{_≡_, refl, sym, ap, _∙_, _↔_, Bool, true, false, not, List, [], _∷_, _++_, append-nil, ℕ, _+_, arith}
+use Rattle.prelude.proofs.{length, take, drop, length-drop, take-append-drop, take-all, eqb, eqb-true, not-false}
+use Rattle.blocks.specs.Bytes.{part, bigEndian}
+use Rattle.answers.specs.Answer.{Answer, done, refused, _when_, first, numberOf, ifDone, FirstOf, NoneOf}
+use Rattle.answers.proofs.First.{Applies, numberAt, refused-at, refused-exactly, done-none, if-done, if-refused}
+use Rattle.links.specs.Record.{numberSize}
+use Rattle.layout.specs.{Layout.lastSize, Layout.linkBytes, Keying.keyingCauses, Keying.keyingAnswer}
 
 module _ (size n : ℕ) (link keys : List ℕ) where
   abbrev answer : Answer
@@ -23,28 +20,29 @@ module _ (size n : ℕ) (link keys : List ℕ) where
   abbrev Keys : List ℕ → ℕ → List ℕ → Type 0
   Keys x r l = (r ≡ numberOf answer) × (l ≡ ifDone answer x link)
 
-  pub bad-link : (length link ≡ size → ⊥) → (x : List ℕ) → Keys x 1 link
+  pub not-keyed : (k : ℕ) → NoneOf (take k (keyingCauses size n link keys)) → Applies k (keyingCauses size n link keys)
+      → (x : List ℕ) → Keys x (numberAt k (keyingCauses size n link keys)) link
   unfolding keyingAnswer
-  bad-link h x =
-      let e = refused-at 0 (keyingCauses size n link keys) (done []) tt (ne-not (length link) size h) in
-      (sym (ap numberOf e), if-refused e x link)
+  not-keyed k h a x = let e = refused-at k (keyingCauses size n link keys) (done []) h a in (sym (ap numberOf e), if-refused e x link)
 
-  -- the link has its size, and r is the number of what keying answered
-  module _ (h : length link ≡ size) {r : ℕ} (e : r ≡ numberOf (keyAnswer n keys)) where
-    same : keyAnswer n keys ≡ answer
-    unfolding keyAnswer keyingAnswer
-    same = sym (simp (eq-not (length link) size h))
+  pub is-keyed : NoneOf (keyingCauses size n link keys) → {x l : List ℕ} → l ≡ x → Keys x 0 l
+  unfolding keyingAnswer
+  is-keyed h e = let d = done-none (keyingCauses size n link keys) (done []) h in (sym (ap numberOf d), e ∙ if-done d _ link)
 
-    told : r ≡ numberOf answer
-    told = e ∙ ap numberOf same
+-- ---- the keys that a keyed link stores are two keys, one behind the other
 
-    pub bad-keys : (r ≡ 0 → ⊥) → (x : List ℕ) → Keys x r link
-    bad-keys z x = (told, if-refused (not-accepts answer (λ d. z (told ∙ d))) x link)
+where-done : (a b : Bool) (x y l : List ℕ) → (b ≡ false → x ≡ y)
+    → let answer = first ((1 when a) ∷ (1 when b) ∷ []) (done []) in ifDone answer x l ≡ ifDone answer y l
+where-done true b x y l e = refl
+where-done false true x y l e = refl
+where-done false false x y l e = e refl
 
-    -- the link that came back was stored as its bytes
-    pub is-keyed : {A : Type 0} (bytes : A → List ℕ) (x y : A) {next : A} {l : List ℕ} → r ≡ 0 → next ≡ ifDone (keyAnswer n keys) x y
-        → l ≡ bytes next → Keys (bytes x) r l
-    unfolding keyingAnswer
-    is-keyed bytes x y z en el =
-        let d : answer ≡ done [] = accepts-done (keyingCauses size n link keys) [] tt (sym told ∙ z) in
-        (told, el ∙ ap bytes (en ∙ sym (if-done (same ∙ d) x y)) ∙ if-done d (bytes x) link)
+pub two-keys : (size p q x : ℕ) (link keys : List ℕ) → let answer = keyingAnswer size (p + q) link keys in
+    ifDone answer (linkBytes true x 0 keys [] []) link ≡ ifDone answer (linkBytes true x 0 (part 0 p keys) (part p q keys) []) link
+unfolding keyingAnswer
+two-keys size p q x link keys = where-done (not (eqb (length link) size)) (not (eqb (length keys) (p + q))) _ _ link λ e.
+    let n : length keys ≡ p + q = eqb-true (length keys) (p + q) (not-false (eqb (length keys) (p + q)) e) in
+    let second : part p q keys ≡ drop p keys = take-all q (drop p keys) (simp length-drop (omega arith)) in
+    ap (λ (z : List ℕ). 1 ∷ (bigEndian numberSize x ++ (bigEndian lastSize 0 ++ z)))
+    (append-nil keys ∙ sym (take-append-drop p keys)
+    ∙ ap (λ (z : List ℕ). take p keys ++ z) (sym second ∙ sym (append-nil (part p q keys))))

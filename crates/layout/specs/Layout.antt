@@ -4,8 +4,7 @@ use mathlib.Core.List.{List, _∷_, _++_}
 use Prim.Native.Nat.{ℕ, _+_}
 use lib.Dec.{eqb}
 use lib.ListN.{drop, getD}
-use Rattle.blocks.specs.Number.{bigEndian, value}
-use Rattle.blocks.specs.Put.{part}
+use Rattle.blocks.specs.Bytes.{bigEndian, value, part}
 use Rattle.links.specs.Record.{numberSize}
 
 -- the bytes of the last number

@@ -1,14 +1,8 @@
 -- A record written field by field: its head, the ciphertext, the tag. Assumes nothing.
-use mathlib.Core.Path.{_≡_, ap, _∙_}
-use mathlib.Core.List.{List, _++_, append-assoc}
-use Prim.Native.Nat.{ℕ, _+_, _≤_}
-use native.Mathlib.Omega.{arith}
-use lib.ListN.{length, take, drop, length-append}
-use lib.Seq.{take-at, drop-at}
-use Rattle.blocks.specs.Put.{part, put}
+use Rattle.prelude.proofs.{_≡_, ap, _∙_, List, _++_, append-assoc, ℕ, _+_, _≤_, arith, length, take, drop, length-append, take-at, drop-at}
+use Rattle.blocks.specs.Bytes.{part, put}
 use Rattle.blocks.proofs.Parts.{put-start, put-put}
-use Rattle.links.specs.declared.Form.{Form}
-use Rattle.links.specs.Record.{headSize, headOf, recordOf}
+use Rattle.links.specs.{Record.headSize, Record.headOf, Record.recordOf, declared.Form.Form}
 use Rattle.links.proofs.Record.{head-length}
 
 -- the fields before the tag, written into o one after the other

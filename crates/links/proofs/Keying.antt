@@ -1,8 +1,5 @@
 -- What keying answers, by the place of its first cause. Assumes nothing.
-use mathlib.Core.Path.{_≡_}
-use mathlib.Core.List.{List, []}
-use Prim.Native.Nat.{ℕ}
-use lib.ListN.{take}
+use Rattle.prelude.proofs.{_≡_, List, [], ℕ, take}
 use Rattle.answers.specs.Answer.{done, refused, NoneOf}
 use Rattle.answers.proofs.First.{Applies, numberAt, refused-at, done-none}
 use Rattle.links.specs.Links.{keyCauses, keyAnswer}

@@ -1,17 +1,11 @@
 -- A record says its fields, and a string of bytes that is long enough is the record of its fields; counter blocks. Assumes nothing.
-use mathlib.Core.Path.{_≡_, refl, sym, ap, ap₂, _∙_}
-use mathlib.Core.List.{List, _++_, append-assoc}
-use Prim.Native.Nat.{ℕ, _+_, _-_, _^_, _≤_, _<_}
-use native.Mathlib.Omega.{arith}
-use lib.ListN.{length, take, drop, length-append, take-append-drop, replicate}
-use lib.Seq.{take-at, drop-at, drop-drop, take-add}
-use Rattle.blocks.specs.Bytes.{Bytes, Block}
-use Rattle.blocks.specs.Number.{bigEndian, value}
-use Rattle.blocks.specs.Put.{part}
+use Rattle.prelude.proofs.{_≡_, refl, sym, ap, ap₂, _∙_, List, _++_, append-assoc, ℕ, _+_, _-_, _^_, _≤_, _<_, arith, length, take, drop}
+use Rattle.prelude.proofs.{length-append, take-append-drop, replicate, take-at, drop-at, drop-drop, take-add}
+use Rattle.blocks.specs.Bytes.{Bytes, Block, bigEndian, value}
 use Rattle.blocks.proofs.Xor.{bytes-append}
 use Rattle.blocks.proofs.Numbers.{bigEndian-length, bigEndian-bytes, bigEndian-says, bigEndian-part, bigEndian-narrow}
-use Rattle.links.specs.declared.Form.{Form}
 use Rattle.links.specs.Record.{numberSize, indexSize, sequenceMost, headSize, added, recordSize, counterBlock, headOf, recordOf}
+use Rattle.links.specs.declared.Form.{Form}
 use Rattle.links.specs.Record.{linkIn, sequenceIn, textIn, tagIn}
 
 -- ---- counter blocks

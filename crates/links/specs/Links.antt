@@ -4,7 +4,7 @@ use mathlib.Core.List.{List, [], _∷_}
 use Prim.Native.Nat.{ℕ}
 use lib.Dec.{eqb}
 use lib.ListN.{length, replicate}
-use Rattle.blocks.specs.Put.{part}
+use Rattle.blocks.specs.Bytes.{part}
 use Rattle.answers.specs.Answer.{Answer, done, refused, Cause, _when_, first}
 use Rattle.links.specs.declared.Sender.{Sender}
 use Rattle.links.specs.declared.KeyAnswer.{KeyAnswer}

@@ -2,8 +2,7 @@
 use mathlib.Core.List.{List, _++_}
 use Prim.Native.Nat.{ℕ, _+_, _-_, _^_, _≤_}
 use lib.ListN.{length, drop}
-use Rattle.blocks.specs.Number.{bigEndian, value}
-use Rattle.blocks.specs.Put.{part}
+use Rattle.blocks.specs.Bytes.{bigEndian, value, part}
 use Rattle.links.specs.declared.Form.{Form}
 
 -- ---- sizes, in bytes

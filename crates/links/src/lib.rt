@@ -2,7 +2,7 @@
 ghost use mathlib.Core.Path.{_≡_};
 ghost use Prim.Native.Nat.{_≤_};
 ghost use lib.ListN.{length};
-ghost use Rattle.blocks.specs.Put.{put};
+ghost use Rattle.blocks.specs.Bytes.{put};
 ghost use Rattle.answers.specs.Answer.{numberOf, ifDone};
 ghost use Rattle.links.specs.Links.{senderKeys, keySays, keyAnswer, freshSender, senderOf};
 ghost use Rattle.links.specs.Record.{standard, Proper, headSize, added, counterBlock, headOf};
@@ -19,6 +19,9 @@ pub const SEQUENCE_MOST: usize = 8;
 
 // The longest message.
 pub const LONGEST: usize = 256;
+
+// The greatest sequence number.
+pub const GREATEST: u32 = 4294967295;
 
 // The form of a record: the bytes of its sequence number and of its tag.
 pub struct Form {

@@ -1,15 +1,8 @@
 -- A block of which each byte is looked up in the table of what f makes of two cells. Assumes nothing.
-use mathlib.Core.Path.{_≡_, sym, ap, _∙_}
-use mathlib.Core.Bool.{Bool}
-use mathlib.Core.List.{List}
-use Prim.Native.Nat.{ℕ, _+_, _*_, _/_, _%_, _<_}
-use native.Mathlib.Omega.{arith}
-use lib.ListN.{getD}
+use Rattle.prelude.proofs.{_≡_, sym, ap, _∙_, Bool, List, ℕ, _+_, _*_, _/_, _%_, _<_, arith, getD}
 use Rattle.bits.specs.Bit.{bit, number}
 use Rattle.bits.proofs.Laws.{bit-low, bit-shr, bit-number, number-lt}
-use Rattle.blocks.specs.Bytes.{Bytes}
-use Rattle.blocks.specs.Bits.{bitAt, cells, eachCell}
-use Rattle.blocks.specs.Put.{tab}
+use Rattle.blocks.specs.{Bytes.Bytes, Bytes.tab, Bits.bitAt, Bits.cells, Bits.eachCell}
 use Rattle.blocks.proofs.ByBytes.{getD-tab, tab-same, place, bit-byte, tab-bits}
 use Rattle.lookup.specs.TwoCells.{twoCells}
 

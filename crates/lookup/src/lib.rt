@@ -1,7 +1,7 @@
 // SubCells on the 16 bytes of a block, and back, by tables.
 ghost use mathlib.Core.Path.{_≡_};
 ghost use lib.ListN.{getD};
-ghost use Rattle.blocks.specs.Put.{tab};
+ghost use Rattle.blocks.specs.Bytes.{tab};
 ghost use Rattle.baksheesh.specs.Baksheesh.{sbox, invSbox, subCells, invSubCells};
 ghost use Rattle.lookup.specs.TwoCells.{twoCells};
 

@@ -1,11 +1,7 @@
 -- All that a call has before a stage's masks hangs on the tape before them, and a stage's lanes on the tape up to their end.
 -- Assumes nothing.
-use mathlib.Core.Path.{_≡_, ap, ap₂}
-use mathlib.Core.List.{_++_}
-use Prim.Native.Nat.{ℕ, zero, suc, _+_, _*_, _≤_}
-use native.Mathlib.Omega.{arith}
-use Rattle.masking.specs.Shares.{Index, next, Shares, add, spread}
-use Rattle.masking.specs.Tape.{Reader, pairSize, masksAt}
+use Rattle.prelude.proofs.{_≡_, ap₂, _++_, ℕ, zero, suc, _+_, _*_, _≤_, arith}
+use Rattle.masking.specs.Shares.{Index, next, Shares, add, spread, Reader, pairSize, masksAt}
 use Rattle.masking.specs.Stages.{Stages, masksSize, state, call, masked, shownShares, lane}
 
 -- two tapes agree below o

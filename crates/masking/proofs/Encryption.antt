@@ -1,25 +1,18 @@
 -- BAKSHEESH on shares is a call of such stages: they make blocks of blocks, join to the plain cipher's rounds, show each key in its own
 -- way, and make of each share, from its lane alone, the next. Assumes nothing.
-use mathlib.Core.Path.{_≡_, refl, sym, ap, ap₂, _∙_}
-use mathlib.Core.List.{List}
-use Prim.Native.Nat.{ℕ, zero, suc, _+_, _-_, _*_}
-use native.Mathlib.Omega.{arith}
-use Rattle.blocks.specs.Bytes.{Block, _⊕_}
-use Rattle.blocks.specs.Put.{part}
+use Rattle.prelude.proofs.{_≡_, refl, sym, ap, ap₂, _∙_, List, ℕ, zero, suc, _+_, _-_, _*_, arith}
+use Rattle.blocks.specs.Bytes.{Block, _⊕_, part}
 use Rattle.blocks.proofs.ByBits.{rearranged-block, rearranged-twice, rearranged-same}
 use Rattle.baksheesh.specs.Baksheesh.{rounds, from, permBits, constant, rotated, round, after, encrypt}
 use Rattle.baksheesh.proofs.Steps.{constant-block}
-use Rattle.masking.specs.Shares.{Index, i₀, i₁, i₂, next, isFirst, Shares, Blocks, join, add, each, only}
-use Rattle.masking.specs.Sbox.{sboxShares}
-use Rattle.masking.specs.Tape.{Reader, pairSize, masksAt}
+use Rattle.masking.specs.Shares.{Index, i₀, i₁, i₂, next, isFirst, Shares, Blocks, join, add, each, only, Reader, pairSize, masksAt}
 use Rattle.masking.specs.Stages.{state, call, masked, shownShares, lane, plainAfter}
 use Rattle.masking.specs.Call.{shareRound, laneRound, encryption, pairCount, callSize, plainEncryption}
-use Rattle.masking.specs.OneTape.{roundOnLane}
-use Rattle.masking.proofs.Sbox.{sboxShares-blocks, sboxShares-join}
+use Rattle.masking.specs.{Sbox.sboxShares, OneTape.roundOnLane}
 use Rattle.masking.proofs.Shape.{Reads, add-blocks, only-blocks, StageBlocks}
 use Rattle.masking.proofs.Joins.{join-add, join-only, join-map, rearranged-linear, StageJoins, call-join}
-use Rattle.masking.proofs.Probe.{Turn}
 use Rattle.masking.proofs.Lane.{lane-next, lane-after, lane-key}
+use Rattle.masking.proofs.{Sbox.sboxShares-blocks, Sbox.sboxShares-join, Probe.Turn}
 
 -- ---- blocks
 

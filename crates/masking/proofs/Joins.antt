@@ -1,14 +1,9 @@
 -- Shares join: masks go away, and the joined shares of a call are the plain cipher's blocks, stage by stage. Assumes nothing.
-use mathlib.Core.Path.{_≡_, sym, ap, ap₂, _∙_}
-use mathlib.Core.List.{List}
-use Prim.Native.Nat.{ℕ, zero, suc, _+_, _*_}
-use native.Mathlib.Omega.{arith}
-use Rattle.blocks.specs.Bytes.{Block, zeros, _⊕_}
-use Rattle.blocks.specs.Bits.{rearranged}
+use Rattle.prelude.proofs.{_≡_, sym, ap, _∙_, List, ℕ, zero, suc, _+_, _*_, arith}
+use Rattle.blocks.specs.{Bytes.Block, Bytes.zeros, Bytes._⊕_, Bits.rearranged}
 use Rattle.blocks.proofs.Xor.{⊕-assoc, ⊕-comm, ⊕-left-comm, ⊕-self, ⊕-zero, ⊕-block, zeros-block}
 use Rattle.blocks.proofs.ByBits.{rearranged-block, rearranged-⊕}
-use Rattle.masking.specs.Shares.{i₀, i₁, i₂, next, Shares, Blocks, join, add, each, spread, only}
-use Rattle.masking.specs.Tape.{Reader, pairSize, masksAt}
+use Rattle.masking.specs.Shares.{i₀, i₁, i₂, next, Shares, Blocks, join, add, each, spread, only, Reader, pairSize, masksAt}
 use Rattle.masking.specs.Stages.{Stages, masksSize, state, call, masked, shownShares, PlainStages, plainAfter}
 use Rattle.masking.proofs.Shape.{Reads, join-block, StageBlocks, state-blocks, masked-blocks}
 

@@ -1,14 +1,8 @@
 -- A lane's 48 bytes: its parts, and what they join to. Assumes nothing.
-use mathlib.Core.Path.{_≡_, sym, ap, _∙_, fun-ext}
-use mathlib.Core.List.{List, _++_, append-assoc}
-use Prim.Native.Nat.{ℕ, _+_, _*_}
-use native.Mathlib.Omega.{arith}
-use lib.ListN.{length, take, length-append}
-use lib.Seq.{take-at, drop-at, take-all}
-use Rattle.blocks.specs.Bytes.{Block}
-use Rattle.blocks.specs.Put.{part}
-use Rattle.masking.specs.Shares.{Index, next, Shares, Blocks, join, sharesIn, flat}
-use Rattle.masking.specs.Tape.{Reader, pairSize}
+use Rattle.prelude.proofs.{_≡_, sym, ap, _∙_, fun-ext, List, _++_, append-assoc, ℕ, _+_, _*_, arith, length, take, length-append, take-at}
+use Rattle.prelude.proofs.{drop-at, take-all}
+use Rattle.blocks.specs.Bytes.{Block, part}
+use Rattle.masking.specs.Shares.{Index, next, Shares, Blocks, join, sharesIn, flat, Reader, pairSize}
 use Rattle.masking.specs.Stages.{Stages, masked, shownShares, lane, PlainStages, plainAfter}
 use Rattle.masking.proofs.Shape.{Reads, shares-same, StageBlocks, masked-blocks, shown-blocks}
 use Rattle.masking.proofs.Joins.{StageJoins, join-turn, masked-join, shown-join}

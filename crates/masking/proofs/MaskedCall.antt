@@ -1,12 +1,7 @@
 -- Shared calls under a masked key: each stage is a probe, so exactly one tape shows the same lane. Assumes nothing.
-use mathlib.Core.Path.{_≡_, sym, ap, _∙_}
-use mathlib.Core.List.{List}
-use Prim.Native.Nat.{ℕ, _+_, _*_, _≤_}
-use native.Mathlib.Omega.{arith}
-use lib.ListN.{length}
+use Rattle.prelude.proofs.{_≡_, sym, ap, _∙_, List, ℕ, _+_, _*_, _≤_, arith, length}
 use Rattle.blocks.specs.Bytes.{Bytes}
-use Rattle.masking.specs.Shares.{Index, Shares, Blocks, add}
-use Rattle.masking.specs.Tape.{Reader, at, pairSize, masksAt}
+use Rattle.masking.specs.Shares.{Index, Shares, Blocks, add, Reader, at, pairSize, masksAt}
 use Rattle.masking.specs.Stages.{Stages, state, masked, shownShares, lane}
 use Rattle.masking.specs.OneTape.{ExactlyOne, laneMask, Shows, every}
 use Rattle.masking.proofs.Shape.{Reads, add-blocks, masksAt-blocks, StageBlocks, state-blocks}

@@ -1,22 +1,13 @@
 -- The one tape, at any place where masks u, v, u XOR v meet three shares, whatever came before. Assumes nothing.
-use mathlib.Core.Path.{_≡_, refl, sym, ap, ap₂, _∙_}
-use mathlib.Core.List.{List, _++_}
-use mathlib.Core.Logic.{inl, inr}
-use Prim.Native.Nat.{ℕ, _+_, _≤_, _<_}
-use native.Mathlib.Omega.{arith}
-use lib.ListN.{length, getD}
-use lib.Seq.{ext-getD}
-use Rattle.blocks.specs.Bytes.{_⊕_, Block, Bytes}
-use Rattle.blocks.specs.Put.{put}
+use Rattle.prelude.proofs.{_≡_, refl, sym, ap, ap₂, _∙_, inl, inr, List, _++_, ℕ, _+_, _≤_, _<_, arith, length, getD, ext-getD}
+use Rattle.blocks.specs.Bytes.{_⊕_, Block, Bytes, put}
 use Rattle.blocks.proofs.Xor.{⊕-assoc, ⊕-comm, ⊕-block, ⊕-cancel, ⊕-injective, ⊕-injective-right}
 use Rattle.blocks.proofs.Parts.{put-length}
-use Rattle.masking.specs.Shares.{Index, i₀, i₁, i₂, next, Shares, Blocks, add, spread}
-use Rattle.masking.specs.Tape.{Reader, at, pairSize, masksAt}
+use Rattle.masking.specs.Shares.{Index, i₀, i₁, i₂, next, Shares, Blocks, add, spread, Reader, at, pairSize, masksAt}
 use Rattle.masking.specs.OneTape.{ExactlyOne, Outside, Alike, laneMask, Shows, every}
-use Rattle.masking.proofs.Shape.{Reads, add-blocks, masksAt-blocks}
-use Rattle.masking.proofs.Causal.{Agree}
-use Rattle.masking.proofs.Tape.{Where, outside, inside, where-is, at-reads, at-ext, at-inside}
-use Rattle.masking.proofs.Tape.{put-outside, put-bytes, put-at, put-agree, append-parts}
+use Rattle.masking.proofs.Tape.{Where, outside, inside, where-is, at-reads, at-ext, at-inside, put-outside, put-bytes, put-at}
+use Rattle.masking.proofs.Tape.{put-agree, append-parts}
+use Rattle.masking.proofs.{Shape.Reads, Shape.add-blocks, Shape.masksAt-blocks, Causal.Agree}
 
 -- A place in a shared computation that reads a tape: the masks c, d of the key given stand at a, the place's masks u, v at o.
 -- `before` is what the masks u, v, u XOR v meet.

@@ -1,14 +1,9 @@
 -- The shared S-box: its bit form is the S-box's, its shares are blocks, and they join to SubCells. Assumes nothing.
-use mathlib.Core.Path.{_≡_, refl, sym, ap, ap₂, _∙_, fun-ext}
-use mathlib.Core.Bool.{Bool, true, false, _&&_}
-use mathlib.Core.List.{List}
-use Prim.Native.Nat.{ℕ, zero, suc, _+_, _*_}
+use Rattle.prelude.proofs.{_≡_, refl, sym, ap, ap₂, _∙_, fun-ext, Bool, true, false, _&&_, List, ℕ, zero, suc, _+_, _*_}
 use Rattle.bits.specs.Bit.{_⊻_}
 use Rattle.bits.proofs.Laws.{⊻-assoc, ⊻-comm, ⊻-left-comm, and-⊻, ⊻-and}
-use Rattle.blocks.specs.Bytes.{_⊕_}
-use Rattle.blocks.specs.Bits.{bitAt, cells, eachCell}
-use Rattle.blocks.proofs.ByBits.{isBlock, bit-⊕, blockOf-⊕}
-use Rattle.blocks.proofs.Xor.{⊕-block}
+use Rattle.blocks.specs.{Bytes._⊕_, Bits.bitAt, Bits.cells, Bits.eachCell}
+use Rattle.blocks.proofs.{ByBits.isBlock, ByBits.bit-⊕, ByBits.blockOf-⊕, Xor.⊕-block}
 use Rattle.baksheesh.specs.Baksheesh.{sbox, subCells}
 use Rattle.masking.specs.Shares.{Index, i₀, i₁, i₂, next, isFirst, Shares, Blocks, join}
 use Rattle.masking.specs.Sbox.{form, shareBit, sboxShare, sboxShares}

@@ -1,12 +1,8 @@
 -- Every share of a call is a block. Assumes nothing.
-use mathlib.Core.Path.{_≡_, fun-ext}
-use mathlib.Core.List.{List}
-use Prim.Native.Nat.{ℕ, zero, suc, _+_, _*_, _≤_}
-use native.Mathlib.Omega.{arith}
+use Rattle.prelude.proofs.{_≡_, fun-ext, List, ℕ, zero, suc, _+_, _*_, _≤_, arith}
 use Rattle.blocks.specs.Bytes.{Block}
 use Rattle.blocks.proofs.Xor.{⊕-block, zeros-block}
-use Rattle.masking.specs.Shares.{Index, i₀, i₁, i₂, Shares, Blocks, three, join, add, spread, only}
-use Rattle.masking.specs.Tape.{Reader, pairSize, masksAt}
+use Rattle.masking.specs.Shares.{Index, i₀, i₁, i₂, Shares, Blocks, three, join, add, spread, only, Reader, pairSize, masksAt}
 use Rattle.masking.specs.Stages.{Stages, masksSize, state, call, masked, shownShares}
 
 -- a tape gives blocks below o

@@ -1,22 +1,11 @@
 -- Tapes: what is read of one at a place, and where a block was written over it. Assumes nothing.
-use mathlib.Core.Path.{_≡_, refl, sym, ap, _∙_}
-use mathlib.Core.List.{List, _++_}
-use mathlib.Core.Logic.{inl, inr}
-use Prim.Native.Nat.{ℕ, _+_, _-_, _≤_, _<_}
-use native.Mathlib.Nat.{lt-of-not-le}
-use native.Mathlib.Decide.{decLe}
-use native.Mathlib.Omega.{arith}
-use lib.ListN.{length, take, drop, getD}
-use lib.Seq.{getD-take, getD-drop, ext-getD, take-at, drop-at}
-use Rattle.blocks.specs.Bytes.{Bytes, Block}
-use Rattle.blocks.specs.Put.{part, put}
-use Rattle.blocks.proofs.Xor.{bytes-take, bytes-drop, bytes-append}
-use Rattle.blocks.proofs.Parts.{part-length, part-bytes, part-take}
+use Rattle.prelude.proofs.{_≡_, refl, sym, ap, _∙_, inl, inr, List, _++_, ℕ, _+_, _-_, _≤_, _<_, lt-of-not-le, decLe, arith, length, take}
+use Rattle.prelude.proofs.{drop, getD, getD-take, getD-drop, ext-getD, take-at, drop-at}
+use Rattle.blocks.specs.Bytes.{Bytes, Block, part, put}
+use Rattle.blocks.proofs.{Xor.bytes-take, Xor.bytes-drop, Xor.bytes-append, Parts.part-length, Parts.part-bytes, Parts.part-take}
 use Rattle.blocks.proofs.Written.{before-put, part-there, behind-put}
-use Rattle.masking.specs.Tape.{at}
-use Rattle.masking.specs.OneTape.{Outside}
-use Rattle.masking.proofs.Shape.{Reads}
-use Rattle.masking.proofs.Causal.{Agree}
+use Rattle.masking.specs.{Shares.at, OneTape.Outside}
+use Rattle.masking.proofs.{Shape.Reads, Causal.Agree}
 
 -- ---- places
 

@@ -6,10 +6,8 @@ use mathlib.Core.List.{List}
 use mathlib.Core.Logic.{_⊎_}
 use Prim.Native.Nat.{ℕ, _+_, _≤_, _<_}
 use lib.ListN.{length, getD}
-use Rattle.blocks.specs.Bytes.{Bytes}
-use Rattle.blocks.specs.Put.{part}
-use Rattle.masking.specs.Shares.{Index, i₀, i₁, i₂}
-use Rattle.masking.specs.Tape.{pairSize}
+use Rattle.blocks.specs.Bytes.{Bytes, part}
+use Rattle.masking.specs.Shares.{Index, i₀, i₁, i₂, pairSize}
 use Rattle.masking.specs.Call.{laneRound}
 
 -- what round n + 1 makes of a share, the first one or another, from the 48 bytes of its lane alone

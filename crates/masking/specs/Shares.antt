@@ -1,9 +1,8 @@
--- Three XOR shares of a block, numbered 0, 1, 2, counted modulo 3. Assumes nothing.
+-- Three XOR shares of a block, numbered 0, 1, 2, counted modulo 3; the tape of their masks, and what is read of it. Assumes nothing.
 use mathlib.Core.Bool.{Bool, true, false}
 use mathlib.Core.List.{List, _++_}
-use Prim.Native.Nat.{ℕ}
-use Rattle.blocks.specs.Bytes.{_⊕_, Block, zeros}
-use Rattle.blocks.specs.Put.{part}
+use Prim.Native.Nat.{ℕ, _+_}
+use Rattle.blocks.specs.Bytes.{_⊕_, Block, zeros, part}
 
 pub data Index : Type 0 where
   i₀ i₁ i₂ : Index
@@ -54,3 +53,20 @@ sharesIn b = three (part 0 16 b) (part 16 16 b) (part 32 16 b)
 
 abbrev pub flat : Shares → List ℕ
 flat s = s i₀ ++ (s i₁ ++ s i₂)
+
+-- ---- the tape
+
+-- the sixteen bytes that stand at each place
+abbrev pub Reader : Type 0
+Reader = ℕ → List ℕ
+
+unfoldable pub at : List ℕ → Reader
+at t p = part p 16 t
+
+-- the bytes of a pair of masks: u, v of a stage, or c, d of a key
+abbrev pub pairSize : ℕ
+pairSize = 32
+
+-- the pair that stands at o, as masks of three shares
+abbrev pub masksAt : Reader → ℕ → Shares
+masksAt M o = spread (M o) (M (o + 16))

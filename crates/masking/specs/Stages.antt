@@ -1,8 +1,7 @@
 -- A call on three shares, over a description of its stages. Assumes nothing.
 use mathlib.Core.List.{List, _++_}
 use Prim.Native.Nat.{ℕ, zero, suc, _+_, _*_}
-use Rattle.masking.specs.Shares.{Index, next, Shares, add, each}
-use Rattle.masking.specs.Tape.{Reader, pairSize, masksAt}
+use Rattle.masking.specs.Shares.{Index, next, Shares, add, each, Reader, pairSize, masksAt}
 
 -- how a call goes: the shares that it starts from, of those of key and input; what stage n + 1 makes, under the key's shares, of the
 -- masked ones; how it shows a share of the key; and how many pairs of masks are drawn, one for each stage

@@ -1,15 +1,8 @@
 -- CMAC: its values are blocks, and its form with a whole block in front of the message. Assumes nothing.
-use mathlib.Core.Path.{_≡_, refl, ap, ap₂, _∙_}
-use mathlib.Core.List.{List, _∷_, _++_}
-use Prim.Native.Nat.{ℕ, zero, suc, _+_, _-_, _*_, _≤_, _<_}
-use native.Mathlib.Numerals.{add-one}
-use native.Mathlib.Decide.{decLt}
-use native.Mathlib.Omega.{arith}
-use lib.ListN.{length, replicate, length-append, length-replicate}
-use borrow.Author.Tests.{eq-eqb, ne-eqb}
-use Rattle.blocks.specs.Bytes.{Bytes, Block, MakesBlocks, _⊕_, zeros}
+use Rattle.prelude.proofs.{_≡_, refl, ap, ap₂, _∙_, List, _∷_, _++_, ℕ, zero, suc, _+_, _-_, _*_, _≤_, _<_, add-one, decLt, arith, length}
+use Rattle.prelude.proofs.{replicate, length-append, length-replicate, eq-eqb, ne-eqb}
+use Rattle.blocks.specs.Bytes.{Bytes, Block, MakesBlocks, _⊕_, zeros, blockCount, piece}
 use Rattle.blocks.proofs.Xor.{⊕-block, zeros-block, bytes-append, bytes-cons, bytes-replicate}
-use Rattle.modes.specs.Pieces.{blockCount, piece}
 use Rattle.modes.specs.Cmac.{padded, macCount, subkey₁, subkey₂, lastBlock, chain, cmac}
 use Rattle.modes.proofs.Pieces.{macCount-behind, piece-le, piece-bytes, piece-block, piece-front, piece-behind}
 use Rattle.modes.proofs.Doubled.{doubled-block}

@@ -1,14 +1,8 @@
 -- Counter mode: how long, which bytes, block by block, and that it undoes itself. Assumes nothing.
-use mathlib.Core.Path.{_≡_, refl, sym, ap, _∙_}
-use mathlib.Core.List.{List, [], _∷_, _++_}
-use Prim.Native.Nat.{ℕ, zero, suc, _+_, _*_, _≤_, _<_, min}
-use native.Mathlib.Numerals.{add-one}
-use native.Mathlib.Omega.{arith}
-use lib.ListN.{length, take, length-append}
-use lib.Bits.{bitXor}
-use Rattle.blocks.specs.Bytes.{Bytes, Block, _⊕_}
+use Rattle.prelude.proofs.{_≡_, refl, sym, ap, _∙_, List, [], _∷_, _++_, ℕ, zero, suc, _+_, _*_, _≤_, _<_, min, add-one, arith, bitXor}
+use Rattle.prelude.proofs.{length, take, length-append}
+use Rattle.blocks.specs.Bytes.{Bytes, Block, _⊕_, blockCount, piece}
 use Rattle.blocks.proofs.Xor.{⊕-comm, ⊕-length, ⊕-bytes, ⊕-cancel-le}
-use Rattle.modes.specs.Pieces.{blockCount, piece}
 use Rattle.modes.specs.Ctr.{ctrPiece, ctrTo, ctr}
 use Rattle.modes.proofs.Pieces.{piece-length, piece-le, piece-bytes, joined, joined-same, joined-bytes, piece-joined, message-joined}
 

@@ -1,20 +1,11 @@
 -- CMAC's doubling: by bits, of an XOR, and byte by byte. Assumes nothing.
-use mathlib.Core.Path.{_≡_, refl, sym, ap, ap₂, _∙_}
-use mathlib.Core.Bool.{Bool, true, false, _&&_, cond}
-use mathlib.Core.List.{List, [], _∷_}
-use Prim.Native.Nat.{ℕ, zero, suc, _+_, _-_, _*_, _/_, _%_, _≤_, _<_}
-use native.Mathlib.Numerals.{add-one}
-use native.Mathlib.Decide.{decLt}
-use native.Mathlib.Omega.{arith}
-use lib.Dec.{eqb, eqb·suc-zero}
-use lib.ListN.{getD, replicate, List·getD-eq-default}
-use lib.Bits.{bitXor, xor-zero-r, xor-lt}
+use Rattle.prelude.proofs.{_≡_, refl, sym, ap, ap₂, _∙_, Bool, true, false, _&&_, cond, List, [], _∷_, ℕ, zero, suc, _+_, _-_, _*_, _/_}
+use Rattle.prelude.proofs.{_%_, _≤_, _<_, add-one, decLt, arith, eqb, eqb·suc-zero, bitXor, xor-zero-r, xor-lt, getD, replicate}
+use Rattle.prelude.proofs.{List·getD-eq-default}
 use Rattle.bits.specs.Bit.{bit, odd, _⊻_}
-use Rattle.bits.proofs.Laws.{bit-zero}
-use Rattle.bits.proofs.Test.{agree, four-bits}
 use Rattle.bits.proofs.XorOfBits.{input, xored, shl, shr, moved}
-use Rattle.blocks.specs.Bytes.{Block, _⊕_}
-use Rattle.blocks.specs.Bits.{bitAt, blockOf}
+use Rattle.bits.proofs.{Laws.bit-zero, Test.agree, Test.four-bits}
+use Rattle.blocks.specs.{Bytes.Block, Bytes._⊕_, Bits.bitAt, Bits.blockOf}
 use Rattle.blocks.proofs.Xor.{⊕-comm, getD-⊕, bytes-append, bytes-cons, bytes-nil, bytes-replicate}
 use Rattle.blocks.proofs.ByBits.{isBlock, blockOf-same, blockOf-bits, blockOf-⊕, bit-⊕}
 use Rattle.blocks.proofs.ByBytes.{bit-byte, byte-same}

@@ -1,15 +1,10 @@
 -- The blocks of a message: how many, how long, and that they join to the message; lists joined, and their blocks.
 -- Assumes nothing.
-use mathlib.Core.Path.{_≡_, refl, sym, ap, ap₂, _∙_}
-use mathlib.Core.List.{List, [], _++_}
-use Prim.Native.Nat.{ℕ, zero, suc, _+_, _-_, _*_, _≤_, _<_, min, max}
-use native.Mathlib.Decide.{decLt}
-use native.Mathlib.Omega.{arith}
-use lib.ListN.{length, take, drop, length-append, length-take, length-drop}
-use lib.Seq.{take-all, take-at, drop-at, take-append-le, drop-append-le, drop-append-add, take-add}
-use Rattle.blocks.specs.Bytes.{Bytes, Block}
+use Rattle.prelude.proofs.{_≡_, refl, sym, ap, ap₂, _∙_, List, [], _++_, ℕ, zero, suc, _+_, _-_, _*_, _≤_, _<_, min, max, decLt, arith}
+use Rattle.prelude.proofs.{length, take, drop, length-append, length-take, length-drop, take-all, take-at, drop-at, take-append-le}
+use Rattle.prelude.proofs.{drop-append-le, drop-append-add, take-add}
+use Rattle.blocks.specs.Bytes.{Bytes, Block, blockCount, piece}
 use Rattle.blocks.proofs.Xor.{bytes-nil, bytes-take, bytes-drop, bytes-append}
-use Rattle.modes.specs.Pieces.{blockCount, piece}
 use Rattle.modes.specs.Cmac.{macCount}
 
 -- ---- how many

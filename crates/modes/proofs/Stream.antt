@@ -1,13 +1,7 @@
 -- Counter mode written block by block: the first j blocks of m, in o from at. Assumes nothing.
-use mathlib.Core.Path.{_≡_, sym, ap, _∙_}
-use mathlib.Core.List.{List, _++_}
-use Prim.Native.Nat.{ℕ, _+_, _*_, _≤_, _<_}
-use native.Mathlib.Omega.{arith}
-use lib.ListN.{length}
-use Rattle.blocks.specs.Bytes.{_⊕_}
-use Rattle.blocks.specs.Put.{put}
+use Rattle.prelude.proofs.{_≡_, sym, ap, _∙_, List, _++_, ℕ, _+_, _*_, _≤_, _<_, arith, length}
+use Rattle.blocks.specs.Bytes.{_⊕_, put, blockCount, piece}
 use Rattle.blocks.proofs.Parts.{put-none, put-length, put-put}
-use Rattle.modes.specs.Pieces.{blockCount, piece}
 use Rattle.modes.specs.Ctr.{ctrTo, ctr}
 use Rattle.modes.proofs.Ctr.{ctrPiece-⊕, ctrTo-zero, ctrTo-more, ctrTo-all, ctrTo-length}
 

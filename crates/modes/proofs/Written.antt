@@ -1,13 +1,7 @@
 -- A block XORed byte by byte, and a short block padded where it stands. Assumes nothing.
-use mathlib.Core.Path.{_≡_, refl, sym, ap, _∙_}
-use mathlib.Core.List.{List, [], _∷_, _++_, append-assoc}
-use Prim.Native.Nat.{ℕ, zero, suc, _+_, _-_, _≤_, _<_}
-use native.Mathlib.Omega.{arith}
-use lib.ListN.{length, drop, getD, set, replicate, length-append, length-take, length-drop}
-use lib.Seq.{getD-take, getD-drop, take-all}
-use lib.Bits.{bitXor}
-use Rattle.blocks.specs.Bytes.{_⊕_}
-use Rattle.blocks.specs.Put.{part, put}
+use Rattle.prelude.proofs.{_≡_, refl, sym, ap, _∙_, List, [], _∷_, _++_, append-assoc, ℕ, zero, suc, _+_, _-_, _≤_, _<_, arith, bitXor}
+use Rattle.prelude.proofs.{length, drop, getD, set, replicate, length-append, length-take, length-drop, getD-take, getD-drop, take-all}
+use Rattle.blocks.specs.Bytes.{_⊕_, part, put}
 use Rattle.blocks.proofs.Parts.{put-set, put-zeros}
 use Rattle.modes.specs.Cmac.{padded}
 

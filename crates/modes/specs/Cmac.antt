@@ -4,9 +4,8 @@ use mathlib.Core.List.{List, [], _∷_, _++_}
 use Prim.Native.Nat.{ℕ, zero, suc, _-_, max}
 use lib.Dec.{eqb}
 use lib.ListN.{length, replicate}
-use Rattle.blocks.specs.Bytes.{_⊕_, zeros}
+use Rattle.blocks.specs.Bytes.{_⊕_, zeros, blockCount, piece}
 use Rattle.blocks.specs.Bits.{bitAt, blockOf}
-use Rattle.modes.specs.Pieces.{blockCount, piece}
 
 -- ---- the subkeys (6.1)
 

@@ -2,8 +2,7 @@
 use mathlib.Core.List.{List, [], _++_}
 use Prim.Native.Nat.{ℕ, zero, suc}
 use lib.ListN.{length, take}
-use Rattle.blocks.specs.Bytes.{_⊕_}
-use Rattle.modes.specs.Pieces.{blockCount, piece}
+use Rattle.blocks.specs.Bytes.{_⊕_, blockCount, piece}
 
 module _ (E : List ℕ → List ℕ) (T : ℕ → List ℕ) (m : List ℕ) where
   -- block j under the counter block T j: a short last block takes as many leading bytes of the output block

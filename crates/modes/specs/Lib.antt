@@ -1,3 +1,2 @@
-pub mod Pieces
 pub mod Ctr
 pub mod Cmac

@@ -3,9 +3,7 @@
 ghost use mathlib.Core.Path.{_≡_};
 ghost use Prim.Native.Nat.{_+_, _-_, _*_, _≤_, _<_, min};
 ghost use lib.ListN.{length};
-ghost use Rattle.blocks.specs.Bytes.{_⊕_};
-ghost use Rattle.blocks.specs.Put.{part, put};
-ghost use Rattle.modes.specs.Pieces.{piece};
+ghost use Rattle.blocks.specs.Bytes.{_⊕_, part, put, piece};
 ghost use Rattle.modes.specs.Cmac.{padded, doubled};
 
 // The block shifted left by one bit, and 0x87 added where the highest bit was set.

@@ -1,14 +1,7 @@
 -- What opening answers, by the place of its first cause, and what was read and computed for it. Assumes nothing.
-use mathlib.Core.Path.{_≡_, sym, ap, ap₂, _∙_, subst}
-use mathlib.Core.Bool.{Bool}
-use mathlib.Core.List.{List, [], _∷_}
-use Prim.Native.Nat.{ℕ, _+_, _-_, _^_, _≤_, _<_}
-use native.Mathlib.Nat.{lt-of-lt-of-le, pow-le-pow-right}
-use native.Mathlib.Omega.{arith}
-use lib.ListN.{length, take, drop, length-drop}
-use lib.Seq.{take-all}
-use Rattle.blocks.specs.Bytes.{Bytes, sameBytes}
-use Rattle.blocks.specs.Put.{part}
+use Rattle.prelude.proofs.{_≡_, sym, ap, ap₂, _∙_, subst, Bool, List, [], _∷_, ℕ, _-_, _^_, _≤_, _<_, lt-of-lt-of-le, pow-le-pow-right}
+use Rattle.prelude.proofs.{arith, length, take, drop, length-drop, take-all}
+use Rattle.blocks.specs.Bytes.{Bytes, sameBytes, part}
 use Rattle.blocks.proofs.Numbers.{part-lt}
 use Rattle.answers.specs.Answer.{done, refused, NoneOf}
 use Rattle.answers.proofs.First.{Applies, numberAt, refused-at, done-none}

@@ -1,19 +1,9 @@
 -- Opening accepts exactly the records that sealing makes for this link with a number above the last accepted, returns that message, and
 -- refuses the record from then on: of any form that a record can have, under any cipher that makes blocks of blocks. Assumes nothing.
-use mathlib.Core.Path.{_≡_, refl, sym, ap, ap₂, _∙_, subst}
-use mathlib.Core.Bool.{true, not}
-use mathlib.Core.List.{List, [], _∷_}
-use mathlib.Core.Logic.{_↔_}
-use Prim.Native.Nat.{ℕ, _^_, _≤_, _<_}
-use native.Mathlib.Omega.{arith}
-use lib.Dec.{eqb}
-use lib.ListN.{length}
-use borrow.Author.Tests.{ltb-false, leb-false, eqb-true, not-false, le-ltb, le-leb, lt-leb}
-use Rattle.blocks.specs.Bytes.{Bytes, Block, MakesBlocks, sameBytes}
-use Rattle.blocks.specs.Put.{part, put}
-use Rattle.blocks.proofs.Parts.{part-length, part-bytes}
-use Rattle.blocks.proofs.Numbers.{part-lt}
-use Rattle.blocks.proofs.Same.{same-true, same-refl}
+use Rattle.prelude.proofs.{_≡_, refl, sym, ap, ap₂, _∙_, subst, _↔_, true, not, List, [], _∷_, ℕ, _^_, _≤_, _<_, arith, eqb, length}
+use Rattle.prelude.proofs.{ltb-false, leb-false, eqb-true, not-false, le-ltb, le-leb, lt-leb}
+use Rattle.blocks.specs.Bytes.{Bytes, Block, MakesBlocks, sameBytes, part, put}
+use Rattle.blocks.proofs.{Parts.part-length, Parts.part-bytes, Numbers.part-lt, Same.same-true, Same.same-refl}
 use Rattle.answers.specs.Answer.{done, refused, Accepts, FirstOf, NoneOf}
 use Rattle.answers.proofs.First.{refused-at, done-none, accepts-none, accepts-done, none-accepts, if-done, if-refused, eq-not}
 use Rattle.answers.proofs.First as First
@@ -23,10 +13,9 @@ use Rattle.links.proofs.Record.{record-made}
 use Rattle.plain.specs.Plain.{crypted, tagOf, plainRecord}
 use Rattle.plain.proofs.Sealed.{crypted-length, crypted-bytes, crypted-twice, plain-length, plain-link, plain-sequence, plain-text}
 use Rattle.plain.proofs.Sealed.{plain-tag}
-use Rattle.opening.specs.declared.Receiver.{Receiver}
-use Rattle.opening.specs.Receivers.{receiverKeys, receiverOf}
 use Rattle.opening.specs.Open.{openAnswer, openCauses, openLink, openOutput, accepting, messageIn, messageSize, rightTag}
 use Rattle.opening.specs.Exactly.{Formed, Opens, Sealed}
+use Rattle.opening.specs.{declared.Receiver.Receiver, Receivers.receiverKeys, Receivers.receiverOf}
 
 module _ (f : Form) (P : Proper f) (C : List ℕ → List ℕ → List ℕ) (M : (k : List ℕ) → Block k → MakesBlocks (C k)) (x : Receiver)
     (F : Formed x) where

@@ -4,8 +4,7 @@ use mathlib.Core.Path.{_≡_}
 use mathlib.Core.List.{List, [], _∷_}
 use Prim.Native.Nat.{ℕ, _^_, _≤_, _<_}
 use lib.ListN.{length}
-use Rattle.blocks.specs.Bytes.{Bytes, Block}
-use Rattle.blocks.specs.Put.{put}
+use Rattle.blocks.specs.Bytes.{Bytes, Block, put}
 use Rattle.answers.specs.Answer.{done}
 use Rattle.links.specs.Record.{numberSize, longest}
 use Rattle.links.specs.declared.Form.{Form}

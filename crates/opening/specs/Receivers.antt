@@ -3,7 +3,7 @@ use mathlib.Core.Bool.{true, false}
 use mathlib.Core.List.{List}
 use Prim.Native.Nat.{ℕ}
 use lib.ListN.{replicate}
-use Rattle.blocks.specs.Put.{part}
+use Rattle.blocks.specs.Bytes.{part}
 use Rattle.opening.specs.declared.Receiver.{Receiver}
 
 -- the bytes of key material: KE, then KM

@@ -1,16 +1,7 @@
 -- Three shares, one behind the other, joined byte by byte; those of CTR's calls make whole blocks. Assumes nothing.
-use mathlib.Core.Path.{_≡_, sym, ap, ap₂, _∙_}
-use mathlib.Core.List.{List}
-use Prim.Native.Nat.{ℕ, _+_, _*_, _≤_, _<_}
-use native.Mathlib.Omega.{arith}
-use lib.ListN.{length, drop, getD}
-use lib.Seq.{getD-take, getD-drop}
-use lib.Bits.{bitXor}
-use Rattle.blocks.specs.Bytes.{_⊕_}
-use Rattle.blocks.specs.Put.{part}
-use Rattle.blocks.proofs.Xor.{⊕-length, getD-⊕}
-use Rattle.blocks.proofs.Parts.{part-length}
-use Rattle.modes.specs.Pieces.{blockCount}
+use Rattle.prelude.proofs.{_≡_, sym, ap, ap₂, _∙_, List, ℕ, _+_, _*_, _≤_, _<_, arith, bitXor, length, drop, getD, getD-take, getD-drop}
+use Rattle.blocks.specs.Bytes.{_⊕_, part, blockCount}
+use Rattle.blocks.proofs.{Xor.⊕-length, Xor.getD-⊕, Parts.part-length}
 use Rattle.modes.proofs.Ctr.{ctr-length}
 use Rattle.links.specs.Record.{longest}
 use Rattle.masking.specs.Shares.{join, sharesIn}

@@ -6,7 +6,7 @@ use shares::unpack_shares;
 ghost use mathlib.Core.Path.{_≡_};
 ghost use Prim.Native.Nat.{_+_, _≤_, _<_};
 ghost use lib.ListN.{length, take};
-ghost use Rattle.blocks.specs.Put.{put};
+ghost use Rattle.blocks.specs.Bytes.{put};
 ghost use Rattle.links.specs.Record.{Proper, longest, recordSize, recordOf};
 ghost use Rattle.masking.specs.Shares.{join, sharesIn};
 ghost use Rattle.calls.specs.Entry.{indexOf};

@@ -1,21 +1,12 @@
 -- Bytes into words and back: the bytes that a word holds, and those of a block by turns. Assumes nothing.
-use mathlib.Core.Path.{_≡_, refl, sym, ap, ap₂, _∙_}
-use mathlib.Core.Bool.{Bool, _&&_}
-use mathlib.Core.List.{List, [], _∷_}
-use Prim.Native.Nat.{ℕ, _+_, _*_, _/_, _%_, _^_, _<_}
-use native.Mathlib.Nat.{mod-lt}
-use native.Mathlib.Omega.{arith}
-use lib.Dec.{T, ltb}
-use lib.ListN.{getD}
-use lib.Pow.{pow-pos}
+use Rattle.prelude.proofs.{_≡_, refl, sym, ap₂, _∙_, Bool, _&&_, List, [], _∷_, ℕ, _+_, _*_, _/_, _%_, _^_, _<_, mod-lt, arith, T, ltb}
+use Rattle.prelude.proofs.{pow-pos, getD}
 use Rattle.bits.specs.Bit.{bit, number}
 use Rattle.bits.proofs.Laws.{number-same, number-bits, bit-low, bit-shr}
 use Rattle.bits.proofs.Test.{each, agree, agree²}
 use Rattle.bits.proofs.XorOfBits.{Made, own, down, input, wider, same, moved}
-use Rattle.blocks.specs.Bytes.{Block, Bytes}
-use Rattle.blocks.specs.Bits.{blockOf, cells, rearranged}
-use Rattle.blocks.proofs.Xor.{bytes-cons, bytes-nil}
-use Rattle.blocks.proofs.ByBits.{rearranged-twice, rearranged-same}
+use Rattle.blocks.specs.{Bytes.Block, Bytes.Bytes, Bits.blockOf, Bits.cells, Bits.rearranged}
+use Rattle.blocks.proofs.{Xor.bytes-cons, Xor.bytes-nil, ByBits.rearranged-twice, ByBits.rearranged-same}
 use Rattle.baksheesh.proofs.Steps.{at-inside}
 use Rattle.words.specs.Words.{unpacked}
 use Rattle.packing.specs.Bytes.{reversed, scattered}

@@ -1,41 +1,21 @@
 -- The calls of a sealing one after the other: what each takes in, and what becomes of its output. Assumes nothing.
-use mathlib.Core.Path.{_≡_, refl, sym, ap, ap₂, _∙_}
-use mathlib.Core.Bool.{cond}
-use mathlib.Core.List.{List, [], _∷_}
-use Prim.Native.Nat.{ℕ, zero, suc, _+_, _-_, _*_, _≤_, _<_, _^_}
-use native.Mathlib.Decide.{ℕ-discrete}
-use native.Mathlib.Numerals.{add-one}
-use native.Mathlib.Omega.{arith}
-use lib.Dec.{eqb}
-use lib.ListN.{length}
-use borrow.Author.Tests.{eq-eqb, ne-eqb}
-use Rattle.blocks.specs.Bytes.{zeros}
-use Rattle.blocks.specs.Put.{part, put}
-use Rattle.blocks.proofs.Parts.{put-length}
-use Rattle.blocks.proofs.Written.{part-before, part-there}
+use Rattle.prelude.proofs.{_≡_, refl, sym, ap, ap₂, _∙_, List, [], _∷_, ℕ, zero, suc, _+_, _-_, _*_, _≤_, _<_, _^_, add-one}
+use Rattle.prelude.proofs.{ℕ-discrete, arith, length, eq-eqb, ne-eqb}
+use Rattle.blocks.specs.Bytes.{zeros, put, blockCount}
+use Rattle.blocks.proofs.{Parts.put-length, Written.part-before, Written.part-there}
 use Rattle.words.specs.Words.{unpacked}
-use Rattle.modes.specs.Pieces.{blockCount}
-use Rattle.links.specs.Record.{longest}
-use Rattle.links.specs.declared.Sender.{Sender}
-use Rattle.masking.specs.Shares.{i₀, i₁, i₂, Shares, add, each, only, sharesIn, flat}
-use Rattle.masking.specs.Tape.{Reader, at, pairSize, masksAt}
+use Rattle.links.specs.{declared.Sender.Sender}
+use Rattle.masking.specs.Shares.{i₀, i₁, i₂, Shares, add, each, only, sharesIn, flat, Reader, at, masksAt}
 use Rattle.masking.specs.Call.{encryption, pairCount, callSize}
-use Rattle.masking.proofs.Shape.{shares-same}
-use Rattle.masking.proofs.Lane.{parts-length, shares-flat}
-use Rattle.shares.specs.declared.Triple.{Triple}
-use Rattle.shares.specs.Packed.{sharesOf}
-use Rattle.shares.proofs.Packed.{zero-words}
-use Rattle.shares.proofs.Onward.{packed-blocks}
-use Rattle.runs.specs.declared.Watch.{Watch}
-use Rattle.runs.specs.declared.Walk.{Walk}
+use Rattle.masking.proofs.{Shape.shares-same, Lane.parts-length, Lane.shares-flat}
+use Rattle.shares.specs.{declared.Triple.Triple, Packed.sharesOf}
+use Rattle.shares.proofs.{Packed.zero-words, Onward.packed-blocks}
 use Rattle.runs.specs.Run.{Run, keyShares, outputs, inputOf, outputOf}
-use Rattle.runs.specs.Walk.{Stepped, Walked}
-use Rattle.runs.proofs.Run.{output-at}
-use Rattle.runs.proofs.Walking.{step-more}
-use Rattle.calls.specs.Numbered.{Call, ctr, sub, mac, callNumber, callOf, callCount, ofKey, keyAt, callAt}
+use Rattle.runs.specs.{declared.Watch.Watch, declared.Walk.Walk, Walk.Stepped, Walk.Walked}
+use Rattle.runs.proofs.{Run.output-at, Walking.step-more}
+use Rattle.calls.specs.Numbered.{Call, ctr, sub, mac, callNumber, callOf, callCount, ofKey, keyAt}
 use Rattle.calls.specs.Sealed.{lastKey, textBlock, counter, macBlock, chain, subkey, inputFrom, sealingCalls, ctrOut}
-use Rattle.calls.proofs.Numbered.{call-ctr, call-sub, call-mac}
-use Rattle.inputs.specs.Inputs.{outsSize, outAt, blockShares}
+use Rattle.inputs.specs.Inputs.{outsSize, blockShares}
 use Rattle.path.specs.Path.{Ready, OutsHold}
 
 zero-shares : only (unpacked (0 ∷ 0 ∷ 0 ∷ 0 ∷ [])) ≡ λ i. zeros

@@ -3,10 +3,10 @@ use mathlib.Core.Path.{_≡_}
 use mathlib.Core.List.{List}
 use Prim.Native.Nat.{ℕ, _+_, _*_, _≤_, _<_}
 use lib.ListN.{length}
-use Rattle.modes.specs.Pieces.{blockCount}
+use Rattle.blocks.specs.Bytes.{blockCount}
 use Rattle.links.specs.Record.{standard, greatest, longest}
 use Rattle.links.specs.declared.Sender.{Sender}
-use Rattle.masking.specs.Tape.{Reader}
+use Rattle.masking.specs.Shares.{Reader}
 use Rattle.masking.specs.Call.{encryption, pairCount}
 use Rattle.shares.specs.Packed.{sharesOf}
 use Rattle.runs.specs.declared.Watch.{Watch}

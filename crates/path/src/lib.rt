@@ -8,21 +8,32 @@ use runs::Walk;
 use runs::Watch;
 use runs::mask_key;
 use runs::step;
+use shares::CALL;
+use shares::PAIR;
 use shares::Triple;
 use shares::add_shares;
 use shares::only;
 use shares::unpack_shares;
 ghost use mathlib.Core.Path.{_≡_};
-ghost use Prim.Native.Nat.{_+_};
+ghost use Prim.Native.Nat.{_+_, _≤_};
 ghost use lib.ListN.{length};
-ghost use Rattle.modes.specs.Pieces.{blockCount};
-ghost use Rattle.masking.specs.Shares.{sharesIn, add as addShares};
-ghost use Rattle.masking.specs.Tape.{at, pairSize, masksAt};
+ghost use Rattle.blocks.specs.Bytes.{blockCount};
+ghost use Rattle.masking.specs.Shares.{sharesIn, add as addShares, at, pairSize, masksAt};
 ghost use Rattle.shares.specs.Packed.{sharesOf};
+ghost use Rattle.links.specs.Record.{longest};
+ghost use Rattle.calls.specs.Numbered.{tapeNeed};
 ghost use Rattle.calls.specs.Sealed.{sealingCalls};
 ghost use Rattle.runs.specs.Walk.{Walked};
 ghost use Rattle.inputs.specs.Inputs.{outsSize};
 ghost use Rattle.path.specs.Path.{Ready, OutsHold, CtrDone, ChainDone, AllDone};
+
+// The tape bytes that a message of n bytes needs.
+pub fn tape_need(n: usize) -> usize
+    requires { ⌜ n ≤ longest ⌝ }
+    ensures { λ r. ⌜ r ≡ tapeNeed n ⌝ }
+{
+    2 * PAIR + CALL * (2 * ((n + 15) / 16) + 2)
+}
 
 // ---- CTR's calls
 

@@ -1,17 +1,10 @@
 -- Bytes taken into words, moved there, and put back: the block with its bits moved. Assumes nothing.
-use mathlib.Core.Path.{_≡_, ap₂, _∙_}
-use mathlib.Core.List.{List, [], _∷_}
-use Prim.Native.Nat.{ℕ, _+_, _-_, _*_, _/_, _%_, _^_, _<_}
-use native.Mathlib.Nat.{mod-lt}
-use native.Mathlib.Omega.{arith}
-use lib.Dec.{T, eqb, ltb, ltb→lt}
-use lib.ListN.{getD}
-use lib.Pow.{pow-pos}
+use Rattle.prelude.proofs.{_≡_, ap₂, _∙_, List, [], _∷_, ℕ, _+_, _-_, _*_, _/_, _%_, _^_, _<_, mod-lt, arith, T, eqb, ltb, ltb→lt, pow-pos}
+use Rattle.prelude.proofs.{getD}
 use Rattle.bits.specs.Bit.{bit}
 use Rattle.bits.proofs.Laws.{bit-low, bit-shr}
 use Rattle.bits.proofs.Test.{each, below, agree², four}
-use Rattle.blocks.specs.Bits.{bitAt, rearranged}
-use Rattle.blocks.specs.Put.{tab}
+use Rattle.blocks.specs.{Bits.bitAt, Bits.rearranged, Bytes.tab}
 use Rattle.blocks.proofs.ByBytes.{place, tab-bits}
 
 -- s: the block; word j is made of its bytes at start j, start j + n, start j + 2n and start j + 3n; bit b of a moved word

@@ -1,12 +1,8 @@
 -- What plain sealing answers, by the place of its first cause. Assumes nothing.
-use mathlib.Core.Path.{_≡_}
-use mathlib.Core.List.{List, [], _∷_}
-use Prim.Native.Nat.{ℕ}
-use lib.ListN.{length, take}
+use Rattle.prelude.proofs.{_≡_, List, [], _∷_, ℕ, length, take}
 use Rattle.answers.specs.Answer.{done, refused, NoneOf}
 use Rattle.answers.proofs.First.{Applies, numberAt, refused-at, done-none}
-use Rattle.links.specs.Record.{recordSize}
-use Rattle.links.specs.declared.Form.{Form}
+use Rattle.links.specs.{Record.recordSize, declared.Form.Form}
 use Rattle.plain.specs.Entry.{plainCauses, plainAnswer}
 
 module _ (f : Form) (keys : List ℕ) (s : ℕ) (m : List ℕ) (o : ℕ) where

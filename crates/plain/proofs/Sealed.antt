@@ -1,15 +1,9 @@
 -- What a record of plain sealing holds: of any form that a record can have, over any functions that make blocks of blocks.
 -- Assumes nothing.
-use mathlib.Core.Path.{_≡_, sym, ap, _∙_}
-use mathlib.Core.List.{List}
-use Prim.Native.Nat.{ℕ, _^_, _<_}
-use native.Mathlib.Omega.{arith}
-use lib.ListN.{length}
-use lib.Seq.{length-take-le}
+use Rattle.prelude.proofs.{_≡_, sym, ap, _∙_, List, ℕ, _^_, _<_, arith, length, length-take-le}
 use Rattle.blocks.specs.Bytes.{Bytes, Block, MakesBlocks}
 use Rattle.blocks.proofs.Xor.{bytes-append}
-use Rattle.modes.proofs.Ctr.{ctr-length, ctr-bytes, ctr-ctr}
-use Rattle.modes.proofs.Cmac.{cmac-block}
+use Rattle.modes.proofs.{Ctr.ctr-length, Ctr.ctr-bytes, Ctr.ctr-ctr, Cmac.cmac-block}
 use Rattle.links.specs.Record.{Proper, numberSize, recordSize, counterBlock, linkIn, sequenceIn, textIn, tagIn}
 use Rattle.links.specs.declared.Form.{Form}
 use Rattle.links.proofs.Record.{counter-block, record-length, link-in, sequence-in, text-in, tag-in}

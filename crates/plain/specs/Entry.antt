@@ -4,7 +4,7 @@ use mathlib.Core.List.{List, [], _∷_}
 use Prim.Native.Nat.{ℕ}
 use lib.Dec.{eqb, ltb}
 use lib.ListN.{length}
-use Rattle.blocks.specs.Put.{part}
+use Rattle.blocks.specs.Bytes.{part}
 use Rattle.answers.specs.Answer.{Answer, done, refused, Cause, _when_, first, output}
 use Rattle.links.specs.Record.{longest, recordSize}
 use Rattle.links.specs.declared.Form.{Form}

@@ -3,7 +3,7 @@ use links::Form;
 ghost use mathlib.Core.Path.{_≡_};
 ghost use Prim.Native.Nat.{_≤_};
 ghost use lib.ListN.{length};
-ghost use Rattle.blocks.specs.Put.{put};
+ghost use Rattle.blocks.specs.Bytes.{put};
 ghost use Rattle.answers.specs.Answer.{numberOf};
 ghost use Rattle.baksheesh.specs.Baksheesh.{encrypt};
 ghost use Rattle.links.specs.Record.{standard, Proper, longest, recordSize};

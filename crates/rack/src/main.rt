@@ -4,24 +4,8 @@ ghost use mathlib.Core.Path.{_≡_};
 ghost use Prim.Native.Nat.{_≤_};
 ghost use lib.ListN.{length};
 ghost use Rattle.calls.specs.Entry.{sealLink};
-use libc::STDOUT_FILENO;
 use links::Sender;
 use sealing::SealAnswer;
-
-fn print(text: &[u8]) {
-    io::write_all(STDOUT_FILENO, text);
-}
-
-// Prints the first `len` bytes of `out`.
-fn print_record(out: &[u8], len: usize)
-    requires { ⌜ (len ≤ length (now out)) × (len ≤ 280) ⌝ }
-{
-    let mut digits = [0u8; 560];
-    hex::put_digits(&out[..len], &mut digits);
-    let end = 2 * len;
-    print(&digits[..end]);
-    print(b"\n");
-}
 
 // Seals, prints what came of it, and hands the link back.
 fn turn(link: Sender, message: &[u8], tape: &[u8], out: &mut [u8]) -> Sender
@@ -29,13 +13,10 @@ fn turn(link: Sender, message: &[u8], tape: &[u8], out: &mut [u8]) -> Sender
 {
     let done = lent::seal_through(link, message, tape, out);
     let answer = done.answer;
-    match answer {
-        SealAnswer::Sealed { len, used: _ } => print_record(out, len),
-        SealAnswer::NotKeyed => print(b"20\n"),
-        SealAnswer::NumbersUsed => print(b"21\n"),
-        SealAnswer::LongMessage => print(b"2\n"),
-        SealAnswer::ShortTape => print(b"3\n"),
-        SealAnswer::ShortOutput => print(b"4\n"),
+    if let SealAnswer::Sealed { len, used: _ } = answer {
+        show::front(out, len);
+    } else {
+        show::tried(b"", answer.number() as u64);
     }
     let next = done.link;
     next
@@ -76,36 +57,30 @@ fn asked(i: usize) -> Lengths
     }
 }
 
-// Byte i becomes i modulo 251.
-fn fill(bytes: &mut [u8]) {
-    let mut i = 0;
-    while i < bytes.len() {
-        bytes[i] = (i % 251) as u8;
-        i += 1;
-    }
-}
-
-fn main() {
-    let mut message = [0u8; 257];
-    let mut tape = [0u8; 38144];
+// Turns on a fresh link and, once it is keyed, one after the other.
+fn turns(keys: &[u8], message: &[u8], tape: &[u8])
+    requires { ⌜ (257 ≤ length (now message)) × (38144 ≤ length (now tape)) ⌝ }
+{
     let mut out = [0u8; 280];
-    fill(&mut message);
-    fill(&mut tape);
-    let fresh = turn(Sender::fresh(), &message, &tape, &mut out);
-    let keyed = fresh.key(
-        0x01020304,
-        b"\x0b\x30\x55\x7a\x9f\xc4\xe9\x0e\x33\x58\x7d\xa2\xc7\xec\x11\x36\x5b\x80\xa5\xca\xef\x14\x39\x5e\x83\xa8\xcd\xf2\x17\x3c\x61\x86\
-          \xab\xd0\xf5\x1a\x3f\x64\x89\xae\xd3\xf8\x1d\x42\x67\x8c\xb1\xd6\xfb\x20\x45\x6a\x8f\xb4\xd9\xfe\x23\x48\x6d\x92\xb7\xdc\x01\x26\
-          \x4b\x70\x95\xba\xdf\x04\x29\x4e\x73\x98\xbd\xe2\x07\x2c\x51\x76\x9b\xc0\xe5\x0a\x2f\x54\x79\x9e\xc3\xe8\x0d\x32\x57\x7c\xa1\xc6",
-    );
+    let fresh = turn(Sender::fresh(), message, tape, &mut out);
+    let keyed = fresh.key(0x01020304, keys);
     let mut link = keyed.link;
-    let mut i = 0;
-    while i < 12 {
+    for i in 0..12 {
         let n = asked(i);
         let m = n.message;
         let t = n.tape;
         let o = n.out;
-        link = turn(link, &message[..m], &tape[..t], &mut out[..o]);
-        i += 1;
+        let next = turn(link, &message[..m], &tape[..t], &mut out[..o]);
+        link = next;
     }
+}
+
+fn main() {
+    let mut keys = [0u8; 96];
+    let mut message = [0u8; 257];
+    let mut tape = [0u8; 38144];
+    show::fill(&mut keys, 11, 37);
+    show::fill(&mut message, 3, 7);
+    show::fill(&mut tape, 5, 13);
+    turns(&keys, &message, &tape);
 }

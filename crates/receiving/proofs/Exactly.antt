@@ -1,15 +1,7 @@
 -- Opening on a stored link accepts exactly the records that sealing makes for it, and refuses them from then on; a refusal changes no byte.
 -- Assumes nothing.
-use mathlib.Core.Path.{_≡_, sym, ap, _∙_, subst}
-use mathlib.Core.Bool.{true}
-use mathlib.Core.List.{List}
-use mathlib.Core.Logic.{_↔_}
-use Prim.Native.Nat.{ℕ, _≤_}
-use native.Mathlib.Omega.{arith}
-use lib.ListN.{length}
-use borrow.Author.Tests.{ltb-false}
-use Rattle.blocks.specs.Bytes.{Bytes, Block, MakesBlocks}
-use Rattle.blocks.specs.Put.{put}
+use Rattle.prelude.proofs.{_≡_, sym, ap, _∙_, subst, _↔_, true, List, ℕ, _≤_, arith, length, ltb-false}
+use Rattle.blocks.specs.Bytes.{Bytes, Block, MakesBlocks, put}
 use Rattle.blocks.proofs.Numbers.{part-lt}
 use Rattle.answers.specs.Answer.{refused, Accepts}
 use Rattle.answers.proofs.First.{accepts-none, accepts-done, if-done, if-refused}
@@ -17,8 +9,7 @@ use Rattle.baksheesh.specs.Baksheesh.{encrypt}
 use Rattle.baksheesh.proofs.Inverse.{encrypt-block}
 use Rattle.links.specs.Record.{standard, Proper, numberSize, recordSize, sequenceIn}
 use Rattle.opening.specs.Open.{openAnswer, openCauses, openLink, accepting, messageSize}
-use Rattle.opening.specs.declared.Receiver.{Receiver}
-use Rattle.opening.specs.Exactly.{Sealed}
+use Rattle.opening.specs.{declared.Receiver.Receiver, Exactly.Sealed}
 use Rattle.opening.proofs.Exactly as Exactly
 use Rattle.receiving.specs.Stored.{receiverIn, receiverBytes}
 use Rattle.receiving.specs.Calls.{receiverKeying, keyedReceiver, openedAnswer, openedLink, openedOutput}

@@ -1,18 +1,11 @@
 -- What opening on a stored link returns and leaves. Assumes nothing.
-use mathlib.Core.Path.{_≡_, sym, ap, _∙_}
-use mathlib.Core.Bool.{Bool, true, false, cond}
-use mathlib.Core.List.{List, [], _∷_}
-use Prim.Native.Nat.{ℕ}
-use native.Mathlib.Omega.{arith}
-use lib.Dec.{T, eqb, eqb→eq}
-use lib.ListN.{length}
+use Rattle.prelude.proofs.{_≡_, sym, ap, _∙_, Bool, true, false, cond, List, [], _∷_, ℕ, arith, T, eqb, eqb→eq, length}
 use Rattle.answers.specs.Answer.{Answer, done, numberOf, Accepts}
 use Rattle.answers.proofs.First.{accepts-done, not-accepts, if-done, if-refused}
 use Rattle.baksheesh.specs.Baksheesh.{encrypt}
 use Rattle.links.specs.Record.{standard, sequenceIn}
-use Rattle.opening.specs.Receivers.{freshReceiver}
 use Rattle.opening.specs.Open.{messageSize, openCauses, openAnswer, accepting, openLink, openOutput}
-use Rattle.opening.specs.declared.Receiver.{Receiver}
+use Rattle.opening.specs.{Receivers.freshReceiver, declared.Receiver.Receiver}
 use Rattle.receiving.specs.Stored.{receiverSize, receiverIn, receiverBytes}
 use Rattle.receiving.specs.Calls.{openedAnswer, openedLink, openedOutput}
 

@@ -1,23 +1,13 @@
 -- A receiving link's bytes say that link, bytes that begin with 0 or 1 are those of the link that they say, and what bytes say is formed.
 -- Assumes nothing.
-use mathlib.Core.Path.{_≡_, refl, sym, ap, _∙_}
-use mathlib.Core.Bool.{Bool, true, false, cond}
-use mathlib.Core.List.{List, []}
-use Prim.Native.Nat.{ℕ, _+_, _^_, _≤_, _<_}
-use native.Mathlib.Omega.{arith}
-use lib.Dec.{eqb}
-use lib.ListN.{length, getD, length-replicate, drop-of-length-le}
-use borrow.Author.Tests.{eqb-true, eq-eqb, ne-eqb}
+use Rattle.prelude.proofs.{_≡_, refl, sym, _∙_, List, [], ℕ, _+_, _^_, _≤_, _<_, arith, eqb, length, getD}
+use Rattle.prelude.proofs.{length-replicate, drop-of-length-le, eqb-true, eq-eqb, ne-eqb}
 use Rattle.blocks.specs.Bytes.{Bytes, Block}
-use Rattle.blocks.proofs.Xor.{bytes-replicate}
-use Rattle.blocks.proofs.Parts.{part-length, part-bytes}
-use Rattle.blocks.proofs.Numbers.{part-lt}
+use Rattle.blocks.proofs.{Xor.bytes-replicate, Parts.part-length, Parts.part-bytes, Numbers.part-lt}
 use Rattle.links.specs.Record.{numberSize}
 use Rattle.layout.specs.Layout.{lastSize, numberAt, keysAt}
-use Rattle.layout.proofs.LinkBytes.{bytes-say, bytes-said}
-use Rattle.opening.specs.Receivers.{freshReceiver}
-use Rattle.opening.specs.Exactly.{Formed}
-use Rattle.opening.specs.declared.Receiver.{Receiver}
+use Rattle.layout.proofs.LinkBytes.{bytes-say, bytes-said, either}
+use Rattle.opening.specs.{Receivers.freshReceiver, Exactly.Formed, declared.Receiver.Receiver}
 use Rattle.receiving.specs.Stored.{receiverSize, receiverAt, receiverIn, receiverBytes}
 
 -- ---- read
@@ -55,11 +45,6 @@ receiver-bytes b h s f =
     }))
 
 -- ---- what bytes say is formed
-
--- of two things, one where a test holds and one where it does not
-either : {A : Type 0} (P : A → Type 0) (t : Bool) {x y : A} → (t ≡ true → P x) → P y → P (cond t x y)
-either P true f g = f refl
-either P false f g = g
 
 pub receiver-formed : (b : List ℕ) → Bytes b → Formed (receiverIn b)
 receiver-formed b h = either Formed (eqb (length b) receiverSize) (λ e. said (eqb-true (length b) receiverSize e)) fresh

@@ -1,10 +1,10 @@
-// A receiving link in its bytes, keyed and opened on: 0 is returned, or the refusal's number.
+// Opening on a receiving link in its bytes: 0 is returned, or the refusal's number.
 use opening::Receiver;
 ghost use mathlib.Core.Path.{_≡_};
 ghost use lib.ListN.{length};
 ghost use Rattle.answers.specs.Answer.{numberOf};
 ghost use Rattle.receiving.specs.Stored.{receiverSize, receiverIn, receiverBytes};
-ghost use Rattle.receiving.specs.Calls.{receiverKeying, keyedReceiver, openedAnswer, openedLink, openedOutput};
+ghost use Rattle.receiving.specs.Calls.{openedAnswer, openedLink, openedOutput};
 
 // The bytes of a link, with no tail.
 const SIZE: usize = layout::KEYS_AT + 32;
@@ -31,24 +31,6 @@ fn store(x: Receiver, bytes: &mut [u8])
     let ke = x.ke;
     let km = x.km;
     layout::put_link(x.keyed, x.number, x.last, &ke, &km, b"", bytes);
-}
-
-// Keys a receiving link: KE, then KM.
-pub fn key(link: &mut [u8], number: u32, keys: &[u8]) -> u32
-    ensures { λ r. ⌜ r ≡ numberOf (receiverKeying (now (link .entry)) (now (keys .entry))) ⌝ }
-    ensures { λ r. ⌜ now (link .exit) ≡ keyedReceiver (now (link .entry)) number (now (keys .entry)) ⌝ }
-{
-    if link.len() != SIZE {
-        return 1;
-    }
-    let keying = Receiver::fresh().key(number, keys);
-    let answer = keying.answer;
-    let n = answer.number();
-    if n == 0 {
-        let next = keying.link;
-        store(next, link);
-    }
-    n
 }
 
 // Opens a record.

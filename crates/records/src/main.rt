@@ -1,6 +1,8 @@
 // Plain sealing and opening: records, the messages that they open to, and refusals.
 use opening::OpenAnswer;
 use opening::Receiver;
+ghost use Prim.Native.Nat.{_≤_, _<_};
+ghost use lib.ListN.{length};
 
 const NUMBER: u32 = 0x01020304;
 
@@ -11,12 +13,20 @@ fn try_seal(what: &[u8], keys: &[u8], sequence: u32, message: &[u8], out: &mut [
 }
 
 // Prints the number that opening gives.
-fn try_open(what: &[u8], link: Receiver, record: &[u8], out: &mut [u8]) -> Receiver {
+fn try_open(what: &[u8], link: Receiver, record: &[u8], out: &mut [u8]) {
     let opening = link.open(record, out);
     let answer = opening.answer;
     show::tried(what, answer.number() as u64);
-    let next = opening.link;
-    next
+}
+
+// Prints the number that opening gives for the record with one byte raised by 1.
+fn try_damaged(what: &[u8], link: Receiver, record: [u8; 41], at: usize)
+    requires { ⌜ at < 41 ⌝ }
+{
+    let mut out = [0u8; 256];
+    let mut damaged = record;
+    damaged[at] = std::num::wrapping_add_u8(record[at], 1);
+    try_open(what, link, &damaged, &mut out);
 }
 
 // Prints the message that a record opens to.
@@ -25,12 +35,29 @@ fn open_record(link: Receiver, record: &[u8]) -> Receiver {
     let opening = link.open(record, &mut message);
     let answer = opening.answer;
     if let OpenAnswer::Opened { len } = answer {
-        show::word(b"open");
+        show::word(b"open ");
         show::number(len as u64);
         show::front(&message, len);
     }
     let next = opening.link;
     next
+}
+
+// The length of message i.
+fn length(i: usize) -> usize
+    ensures { λ r. ⌜ r ≤ 256 ⌝ }
+{
+    match i {
+        0 => 0,
+        1 => 1,
+        2 => 15,
+        3 => 16,
+        4 => 17,
+        5 => 31,
+        6 => 32,
+        7 => 255,
+        _ => 256,
+    }
 }
 
 // Prints the record of a message, and opens it; the output is as long as the record.
@@ -42,28 +69,30 @@ fn seal_and_open(
     out: &mut [u8],
 ) -> Receiver {
     plain::seal(keys, NUMBER, sequence, message, out);
-    show::word(b"seal");
+    show::word(b"seal ");
     show::number(message.len() as u64);
     show::bytes(out);
     open_record(link, out)
 }
 
+// Message i, under the number i + 1.
+fn case(link: Receiver, keys: &[u8], message: &[u8], i: usize) -> Receiver
+    requires { ⌜ (i < 9) × (256 ≤ length (now message)) ⌝ }
+{
+    let n = length(i);
+    let end = n + 24;
+    let mut record = [0u8; 280];
+    seal_and_open(link, keys, i as u32 + 1, &message[..n], &mut record[..end])
+}
+
 fn refused_seals(keys: &[u8], message: &[u8]) {
     let mut record = [0u8; 281];
     let mut short_record = [0u8; 40];
-    let short_keys = [0u8; 31];
-    let long_message = [0u8; 257];
-    try_seal(b"seal 257 bytes", keys, 1, &long_message, &mut record);
-    try_seal(b"seal sequence 0", keys, 0, message, &mut record);
+    try_seal(b"seal 257 bytes ", keys, 1, &[0; 257], &mut record);
+    try_seal(b"seal sequence 0 ", keys, 0, message, &mut record);
+    try_seal(b"seal keys of 31 bytes ", &[0; 31], 1, message, &mut record);
     try_seal(
-        b"seal keys of 31 bytes",
-        &short_keys,
-        1,
-        message,
-        &mut record,
-    );
-    try_seal(
-        b"seal output one short",
+        b"seal output one short ",
         keys,
         1,
         message,
@@ -71,89 +100,43 @@ fn refused_seals(keys: &[u8], message: &[u8]) {
     );
 }
 
-// Opens the record with one byte raised by 1, and lowers it again.
-fn open_damaged(what: &[u8], link: Receiver, record: &mut [u8], at: usize) -> Receiver {
-    if record.len() <= at {
-        return link;
-    }
-    let mut out = [0u8; 256];
-    let byte = record[at];
-    record[at] = std::num::wrapping_add_u8(byte, 1);
-    let next = try_open(what, link, record, &mut out);
-    record[at] = byte;
-    next
-}
-
-// Refusals before the tag is looked at, of a record of 17 bytes.
-fn refused_unread(link: Receiver, record: &mut [u8]) -> Receiver {
+// Refusals before the tag is looked at; the record is of 17 bytes.
+fn refused_unread(link: Receiver, record: [u8; 41]) {
     let mut out = [0u8; 256];
     let mut short_out = [0u8; 16];
-    let short_record = [0u8; 23];
-    let long_record = [0u8; 281];
-    try_open(b"open not keyed", Receiver::fresh(), record, &mut out);
-    let a = try_open(b"open 23 bytes", link, &short_record, &mut out);
-    let b = try_open(b"open 281 bytes", a, &long_record, &mut out);
-    let c = open_damaged(b"open other link", b, record, 3);
-    try_open(b"open output one short", c, record, &mut short_out)
+    try_open(b"open not keyed ", Receiver::fresh(), &record, &mut out);
+    try_open(b"open 23 bytes ", link, &[0; 23], &mut out);
+    try_open(b"open 281 bytes ", link, &[0; 281], &mut out);
+    try_damaged(b"open other link ", link, record, 3);
+    try_open(b"open output one short ", link, &record, &mut short_out);
 }
 
 // Refusals by the tag.
-fn refused_tags(link: Receiver, record: &mut [u8]) -> Receiver {
-    let a = open_damaged(b"open damaged ciphertext", link, record, 8);
-    let b = open_damaged(b"open damaged tag", a, record, 40);
-    open_damaged(b"open damaged sequence", b, record, 4)
-}
-
-// A record that is accepted once.
-fn open_twice(link: Receiver, record: &[u8]) {
-    let mut out = [0u8; 256];
-    let next = open_record(link, record);
-    try_open(b"open again", next, record, &mut out);
-}
-
-fn refusals(link: Receiver, keys: &[u8], message: &[u8]) {
-    refused_seals(keys, message);
-    let mut record = [0u8; 41];
-    try_seal(b"seal 17 bytes", keys, 10, message, &mut record);
-    let a = refused_unread(link, &mut record);
-    let b = refused_tags(a, &mut record);
-    open_twice(b, &record);
-}
-
-// Seals and opens the first n bytes of a message.
-fn case(link: Receiver, keys: &[u8], sequence: u32, message: &[u8], n: usize) -> Receiver {
-    if message.len() < n {
-        return link;
-    }
-    if 256 < n {
-        return link;
-    }
-    let mut record = [0u8; 280];
-    let end = n + 24;
-    seal_and_open(link, keys, sequence, &message[..n], &mut record[..end])
-}
-
-fn cases(keys: &[u8], message: &[u8]) -> Receiver {
-    let keying = Receiver::fresh().key(NUMBER, keys);
-    let fresh = keying.link;
-    let a = case(fresh, keys, 1, message, 0);
-    let b = case(a, keys, 2, message, 1);
-    let c = case(b, keys, 3, message, 15);
-    let d = case(c, keys, 4, message, 16);
-    let e = case(d, keys, 5, message, 17);
-    let f = case(e, keys, 6, message, 31);
-    let g = case(f, keys, 7, message, 32);
-    let h = case(g, keys, 8, message, 255);
-    case(h, keys, 9, message, 256)
+fn refused_tags(link: Receiver, record: [u8; 41]) {
+    try_damaged(b"open damaged ciphertext ", link, record, 8);
+    try_damaged(b"open damaged tag ", link, record, 40);
+    try_damaged(b"open damaged sequence ", link, record, 4);
 }
 
 fn main() {
     let mut keys = [0u8; 32];
     let mut message = [0u8; 256];
     let mut short_message = [0u8; 17];
+    let mut record = [0u8; 41];
+    let mut out = [0u8; 256];
     show::fill(&mut keys, 0, 1);
     show::fill(&mut message, 3, 7);
     show::fill(&mut short_message, 3, 7);
-    let link = cases(&keys, &message);
-    refusals(link, &keys, &short_message);
+    let keying = Receiver::fresh().key(NUMBER, &keys);
+    let mut link = keying.link;
+    for i in 0..9 {
+        let next = case(link, &keys, &message, i);
+        link = next;
+    }
+    refused_seals(&keys, &short_message);
+    try_seal(b"seal 17 bytes ", &keys, 10, &short_message, &mut record);
+    refused_unread(link, record);
+    refused_tags(link, record);
+    let opened = open_record(link, &record);
+    try_open(b"open again ", opened, &record, &mut out);
 }

@@ -1,18 +1,12 @@
 -- Two runs whose call k has its masks in the same places: exactly one tape shows with the second the lane seen with the first.
 -- Assumes nothing.
-use mathlib.Core.Path.{_≡_, refl}
-use mathlib.Core.List.{List}
-use Prim.Native.Nat.{ℕ, _+_, _-_, _*_, _≤_}
-use native.Mathlib.Omega.{arith}
-use lib.ListN.{length}
+use Rattle.prelude.proofs.{_≡_, refl, List, ℕ, _+_, _-_, _*_, _≤_, arith, length}
 use Rattle.blocks.specs.Bytes.{Bytes}
-use Rattle.masking.specs.Shares.{Index, add}
-use Rattle.masking.specs.Tape.{Reader, at, pairSize, masksAt}
+use Rattle.masking.specs.Shares.{Index, add, Reader, at, pairSize, masksAt}
 use Rattle.masking.specs.Stages.{Stages, lane}
 use Rattle.masking.specs.OneTape.{ExactlyOne, laneMask, Shows, every}
-use Rattle.masking.proofs.Shape.{StageBlocks}
-use Rattle.masking.proofs.Probe.{Turn}
 use Rattle.masking.proofs.MaskedCall.{MaskedCall, laneAt, one-tape, one-accepted}
+use Rattle.masking.proofs.{Shape.StageBlocks, Probe.Turn}
 use Rattle.runs.specs.Run.{Run, keyShares, inputOf, laneOf}
 use Rattle.runs.proofs.Run.{Placed, RunBlocks, input-agree, input-blocks}
 

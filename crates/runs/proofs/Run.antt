@@ -1,19 +1,11 @@
 -- The calls of a run, over any stages: their shares are blocks, hang on the tape before their masks, and join to plain calls.
 -- Assumes nothing.
-use mathlib.Core.Path.{_≡_, refl, ap, _∙_}
-use mathlib.Core.Bool.{Bool, true, false, cond}
-use mathlib.Core.List.{List}
-use Prim.Native.Nat.{ℕ, zero, suc, _+_, _-_, _*_, _≤_, _<_}
-use native.Mathlib.Decide.{ℕ-discrete}
-use native.Mathlib.Omega.{arith}
-use lib.Dec.{eqb}
-use lib.ListN.{length}
-use borrow.Author.Tests.{eq-eqb, ne-eqb}
-use Rattle.blocks.specs.Put.{part}
+use Rattle.prelude.proofs.{_≡_, refl, ap, _∙_, Bool, true, false, cond, List, ℕ, zero, suc, _+_, _-_, _*_, _≤_, _<_, ℕ-discrete, arith, eqb}
+use Rattle.prelude.proofs.{length, eq-eqb, ne-eqb}
+use Rattle.blocks.specs.Bytes.{part}
 use Rattle.blocks.proofs.Xor.{zeros-block}
-use Rattle.masking.specs.Shares.{Index, next, Shares, Blocks, join, add}
-use Rattle.masking.specs.Tape.{Reader, pairSize}
-use Rattle.masking.specs.Stages.{Stages, masksSize, lane, PlainStages, plainAfter}
+use Rattle.masking.specs.Shares.{Index, next, Shares, Blocks, join, add, Reader, pairSize}
+use Rattle.masking.specs.Stages.{Stages, masksSize, PlainStages, plainAfter}
 use Rattle.masking.proofs.Shape.{Reads, add-blocks, masksAt-blocks, StageBlocks, call-blocks}
 use Rattle.masking.proofs.Causal.{Agree, masksAt-agree, call-agree, lane-agree}
 use Rattle.masking.proofs.Joins.{join-masksAt, StageJoins, call-join}

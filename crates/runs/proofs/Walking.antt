@@ -1,22 +1,11 @@
 -- The calls of a run one after the other: each leads behind itself, and gives the run's output. Assumes nothing.
-use mathlib.Core.Path.{_≡_, sym, ap, _∙_, subst}
-use mathlib.Core.List.{List, [], _∷_}
-use Prim.Native.Nat.{ℕ, _+_, _-_, _≤_}
-use native.Mathlib.Decide.{ℕ-discrete}
-use native.Mathlib.Omega.{arith}
-use lib.Dec.{eqb}
-use borrow.Author.Tests.{eq-eqb, ne-eqb}
-use Rattle.shares.specs.declared.Triple.{Triple}
-use Rattle.masking.specs.Shares.{Shares}
-use Rattle.masking.specs.Tape.{Reader}
+use Rattle.prelude.proofs.{_≡_, sym, ap, _∙_, subst, ℕ, _+_, _-_, ℕ-discrete, arith, eqb, eq-eqb, ne-eqb}
+use Rattle.shares.specs.{declared.Triple.Triple, Packed.sharesOf}
 use Rattle.masking.specs.Stages.{call, masked, shownShares}
-use Rattle.masking.specs.Call.{encryption, callSize}
-use Rattle.shares.specs.Packed.{sharesOf}
-use Rattle.runs.specs.declared.Watch.{Watch}
-use Rattle.runs.specs.declared.Seen.{Seen}
-use Rattle.runs.specs.declared.Walk.{Walk}
+use Rattle.masking.specs.{Shares.Shares, Shares.Reader, Call.encryption, Call.callSize}
 use Rattle.runs.specs.Run.{Run, keyShares, inputOf, outputOf}
 use Rattle.runs.specs.Walk.{looked, Shown, Stepped, Walked}
+use Rattle.runs.specs.{declared.Watch.Watch, declared.Seen.Seen, declared.Walk.Walk}
 
 -- ---- what one call shows
 

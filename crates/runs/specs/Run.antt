@@ -5,8 +5,7 @@ use mathlib.Core.List.{List}
 use Prim.Native.Nat.{ℕ, zero, suc, _-_}
 use lib.Dec.{eqb}
 use Rattle.blocks.specs.Bytes.{zeros}
-use Rattle.masking.specs.Shares.{Index, Shares, add}
-use Rattle.masking.specs.Tape.{Reader, masksAt}
+use Rattle.masking.specs.Shares.{Index, Shares, add, Reader, masksAt}
 use Rattle.masking.specs.Stages.{Stages, call, lane}
 
 -- how many calls there are; and of call k: the shares of its key as they are given, where the masks c, d of that key stand, where the

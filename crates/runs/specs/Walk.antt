@@ -3,8 +3,7 @@ use mathlib.Core.Path.{_≡_}
 use mathlib.Core.Bool.{Bool, true, false}
 use Prim.Native.Nat.{ℕ, _+_, _-_, _≤_}
 use Rattle.shares.specs.declared.Triple.{Triple}
-use Rattle.masking.specs.Shares.{Shares}
-use Rattle.masking.specs.Tape.{Reader}
+use Rattle.masking.specs.Shares.{Shares, Reader}
 use Rattle.masking.specs.Stages.{call, masked, shownShares}
 use Rattle.masking.specs.Call.{encryption, callSize}
 use Rattle.shares.specs.Packed.{sharesOf}

@@ -1,18 +1,10 @@
 -- Each byte of a rotated block comes from two neighbouring bytes. Assumes nothing.
-use mathlib.Core.Path.{_≡_, refl, sym, ap, ap₂, _∙_}
-use mathlib.Core.Bool.{_&&_}
-use mathlib.Core.List.{List, [], _∷_}
-use Prim.Native.Nat.{ℕ, zero, suc, _+_, _-_, _*_, _/_, _%_, _^_, _<_}
-use native.Mathlib.Omega.{arith}
-use lib.Dec.{ltb}
-use lib.ListN.{getD}
-use lib.Bits.{bitXor}
+use Rattle.prelude.proofs.{_≡_, refl, sym, ap, ap₂, _∙_, _&&_, List, [], _∷_, ℕ, zero, suc, _+_, _-_, _*_, _/_, _%_, _^_, _<_, arith, ltb}
+use Rattle.prelude.proofs.{bitXor, getD}
 use Rattle.bits.specs.Bit.{bit}
 use Rattle.bits.proofs.Test.{each, below}
 use Rattle.bits.proofs.XorOfBits.{Made, Places, own, down, up, joined, same, input, xored, shr, shl, moved}
-use Rattle.blocks.specs.Bytes.{Bytes}
-use Rattle.blocks.specs.Bits.{bitAt, rearranged}
-use Rattle.blocks.specs.Put.{tab}
+use Rattle.blocks.specs.{Bytes.Bytes, Bytes.tab, Bits.bitAt, Bits.rearranged}
 use Rattle.baksheesh.specs.Baksheesh.{rotated}
 use Rattle.blocks.proofs.ByBytes.{place, tab-bits}
 

@@ -14,43 +14,9 @@ pub fn add(s: [u8; 16], t: [u8; 16]) -> [u8; 16]
     r
 }
 
-const CONSTANTS: [u8; 35] = [
-    2,
-    33,
-    16,
-    9,
-    36,
-    19,
-    40,
-    53,
-    26,
-    13,
-    38,
-    51,
-    56,
-    61,
-    62,
-    31,
-    14,
-    7,
-    34,
-    49,
-    24,
-    45,
-    54,
-    59,
-    28,
-    47,
-    22,
-    43,
-    20,
-    11,
-    4,
-    3,
-    32,
-    17,
-    8,
-];
+const CONSTANTS: [u8; 35] = *b"\
+    \x02\x21\x10\x09\x24\x13\x28\x35\x1a\x0d\x26\x33\x38\x3d\x3e\x1f\x0e\x07\
+    \x22\x31\x18\x2d\x36\x3b\x1c\x2f\x16\x2b\x14\x0b\x04\x03\x20\x11\x08";
 
 // What round n + 1 adds: six bits, each at its tap.
 pub fn constant(n: usize) -> [u8; 16]

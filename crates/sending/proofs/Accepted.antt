@@ -1,16 +1,10 @@
 -- An accepted call of sealing is an accepted sealing on the link that its bytes say. Assumes nothing.
-use mathlib.Core.Path.{_≡_}
-use mathlib.Core.List.{List, []}
-use Prim.Native.Nat.{ℕ, _≤_}
-use lib.ListN.{length}
-use borrow.Author.Tests.{ltb-false, le-ltb}
+use Rattle.prelude.proofs.{List, [], ℕ, _≤_, length, ltb-false, le-ltb}
 use Rattle.answers.specs.Answer.{Accepts, NoneOf}
 use Rattle.answers.proofs.First.{accepts-none, none-accepts}
-use Rattle.calls.specs.Entry.{sealCauses, sealAnswer}
-use Rattle.calls.specs.Demand.{Accepted, AcceptedSealing}
-use Rattle.sending.specs.Stored.{senderIn}
+use Rattle.calls.specs.{Entry.sealCauses, Entry.sealAnswer, Demand.Accepted, Demand.AcceptedSealing}
 use Rattle.sending.specs.Calls.{sharesSize, sealedCauses, sealedAnswer}
-use Rattle.sending.specs.Demand.{StoredSealing}
+use Rattle.sending.specs.{Stored.senderIn, Demand.StoredSealing}
 use Rattle.sending.proofs.Stored.{sender-formed}
 
 -- ---- sealing is accepted exactly where it is on the link that the bytes say, with room for shares and count

@@ -1,33 +1,18 @@
 -- Probe-proof at the calls: the three statements on links in their bytes, with the tag's shares and the tape count out of the second slice.
 -- Assumes nothing.
-use mathlib.Core.Path.{_≡_, sym, ap, _∙_}
-use mathlib.Core.List.{List, _++_, append-assoc}
-use Prim.Native.Nat.{ℕ, _+_, _-_, _*_, _≤_, _<_}
-use native.Mathlib.Omega.{arith}
-use lib.ListN.{length, take}
-use lib.Seq.{take-at, drop-at}
-use Rattle.blocks.specs.Number.{bigEndian}
-use Rattle.blocks.specs.Put.{part, put}
-use Rattle.blocks.proofs.Numbers.{bigEndian-length}
-use Rattle.blocks.proofs.Parts.{part-take, put-start}
+use Rattle.prelude.proofs.{_≡_, sym, ap, _∙_, List, _++_, append-assoc, ℕ, _-_, _*_, _≤_, _<_, arith, length, take, take-at, drop-at}
+use Rattle.blocks.specs.Bytes.{bigEndian, part, put, blockCount}
+use Rattle.blocks.proofs.{Numbers.bigEndian-length, Parts.part-take, Parts.put-start}
 use Rattle.answers.proofs.First.{if-done}
 use Rattle.baksheesh.specs.Baksheesh.{rounds}
-use Rattle.modes.specs.Pieces.{blockCount}
-use Rattle.masking.specs.Shares.{isFirst, flat}
-use Rattle.masking.specs.Tape.{at}
-use Rattle.masking.specs.Call.{pairCount}
-use Rattle.masking.specs.OneTape.{ExactlyOne, roundOnLane}
-use Rattle.calls.specs.Numbered.{callCount, tapeNeed}
-use Rattle.calls.specs.Sealed.{tagShares}
-use Rattle.calls.specs.Entry.{indexOf}
-use Rattle.calls.specs.Demand.{SameLane, Joined}
+use Rattle.masking.specs.Shares.{isFirst, flat, at}
+use Rattle.masking.specs.{Call.pairCount, OneTape.ExactlyOne, OneTape.roundOnLane}
+use Rattle.calls.specs.{Numbered.callCount, Numbered.tapeNeed, Sealed.tagShares, Entry.indexOf, Demand.SameLane, Demand.Joined}
 use Rattle.calls.proofs.Lanes.{returned, tag-size}
 use Rattle.calls.proofs.ProbeProof as Value
-use Rattle.sending.specs.Stored.{senderIn}
-use Rattle.sending.specs.Calls.{countSize, sharesSize, sharesOutput}
+use Rattle.sending.specs.{Stored.senderIn, Calls.countSize, Calls.sharesSize, Calls.sharesOutput}
 use Rattle.sending.specs.Demand.{StoredSealing, shownWith, StoredSameLane}
-use Rattle.sending.proofs.Accepted.{call-accepted, accepted-call, said}
-use Rattle.sending.proofs.Right.{is-done}
+use Rattle.sending.proofs.{Accepted.call-accepted, Accepted.accepted-call, Accepted.said, Right.is-done}
 
 -- two calls of sealing that return 0, with messages of one length; any lane of any round of any call: exactly one tape, differing from
 -- the first's only in that round's 32 mask bytes and the lane's 16 key mask bytes, makes the report of the second show the same lane

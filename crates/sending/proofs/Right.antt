@@ -1,23 +1,15 @@
 -- A call of sealing writes plain sealing's record, and keeps the advanced link. Assumes nothing.
-use mathlib.Core.Path.{_≡_, sym, ap, _∙_}
-use mathlib.Core.List.{[], _++_}
-use Prim.Native.Nat.{_+_}
-use lib.ListN.{length}
+use Rattle.prelude.proofs.{_≡_, sym, ap, _∙_, [], _++_, _+_, length}
 use Rattle.answers.specs.Answer.{done}
 use Rattle.answers.proofs.First.{accepts-done, if-done}
 use Rattle.baksheesh.specs.Baksheesh.{encrypt}
 use Rattle.links.specs.Record.{standard}
 use Rattle.plain.specs.Entry.{plainOutput}
-use Rattle.calls.specs.Entry.{advanced}
-use Rattle.calls.specs.Demand.{joinedKE, joinedKM}
-use Rattle.calls.proofs.Lanes.{returned}
-use Rattle.calls.proofs.Right.{same-output}
-use Rattle.calls.proofs.Total.{advanced-formed}
-use Rattle.sending.specs.Stored.{senderIn}
+use Rattle.calls.specs.{Entry.advanced, Demand.joinedKE, Demand.joinedKM}
+use Rattle.calls.proofs.{Lanes.returned, Right.same-output, Total.advanced-formed}
 use Rattle.sending.specs.Calls.{sealedCauses, sealedAnswer, sealedLink, recordOutput}
-use Rattle.sending.specs.Demand.{StoredSealing}
-use Rattle.sending.proofs.Stored.{sender-said}
-use Rattle.sending.proofs.Accepted.{said}
+use Rattle.sending.specs.{Stored.senderIn, Demand.StoredSealing}
+use Rattle.sending.proofs.{Stored.sender-said, Accepted.said}
 
 module _ (S : StoredSealing) where
   pub is-done : sealedAnswer (S .link) (S .message) (S .tape) (length (S .out)) (length (S .shares)) ≡ done []

@@ -1,26 +1,13 @@
 -- What sealing and the report on a link in its bytes return and leave. Assumes nothing.
-use mathlib.Core.Path.{_≡_, refl, sym, ap, _∙_}
-use mathlib.Core.Bool.{Bool, true, false, cond}
-use mathlib.Core.List.{List, [], _∷_, _++_, append-nil}
-use Prim.Native.Nat.{ℕ, _≤_}
-use native.Mathlib.Omega.{arith}
-use lib.Dec.{T, ltb, eqb, eqb→eq}
-use lib.ListN.{length, getD, take, drop, take-append-drop}
-use lib.Seq.{length-take-le, take-length, drop-length}
-use borrow.Author.Tests.{ltb-false, lt-ltb}
-use Rattle.blocks.specs.Number.{bigEndian}
-use Rattle.blocks.specs.Put.{put}
+use Rattle.prelude.proofs.{_≡_, refl, sym, ap, _∙_, Bool, true, false, cond, List, [], _∷_, _++_, append-nil, ℕ, _≤_, arith, T, ltb, eqb}
+use Rattle.prelude.proofs.{eqb→eq, length, getD, take, drop, take-append-drop, length-take-le, take-length, drop-length, ltb-false, lt-ltb}
+use Rattle.blocks.specs.Bytes.{bigEndian, put}
 use Rattle.answers.specs.Answer.{Answer, done, refused, _when_, first, numberOf, output, valuesOf, NoneOf}
 use Rattle.answers.proofs.First.{done-none, accepts-none, same-number, not-accepts, if-done, if-refused}
-use Rattle.links.specs.Record.{standard, recordSize}
-use Rattle.links.specs.Links.{freshSender}
-use Rattle.links.specs.declared.Sender.{Sender}
-use Rattle.masking.specs.Shares.{flat}
-use Rattle.masking.specs.Tape.{at}
-use Rattle.calls.specs.Numbered.{tapeNeed}
-use Rattle.calls.specs.Sealed.{tagShares, sealedRecord}
+use Rattle.links.specs.{Record.standard, Record.recordSize, Links.freshSender, declared.Sender.Sender}
+use Rattle.masking.specs.Shares.{flat, at}
 use Rattle.calls.specs.Entry.{inputCauses, sealAnswer, advanced, sealLink, sealShares, sealOutput, reportAnswer, reportOutput}
-use Rattle.calls.specs.Demand.{Accepted}
+use Rattle.calls.specs.{Numbered.tapeNeed, Sealed.tagShares, Sealed.sealedRecord, Demand.Accepted}
 use Rattle.calls.proofs.Accepted.{values}
 use Rattle.sending.specs.Stored.{senderSize, senderIn, senderBytes}
 use Rattle.sending.specs.Calls.{countSize, sharesSize, sealedCauses, sealedAnswer, sealedLink, recordOutput, sharesOutput}

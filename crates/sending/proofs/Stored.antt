@@ -1,23 +1,12 @@
 -- A sending link's bytes say that link, bytes that begin with 0 or 1 are those of the link that they say, and what bytes say is formed.
 -- Assumes nothing.
-use mathlib.Core.Path.{_≡_, refl, sym, ap, _∙_}
-use mathlib.Core.Bool.{Bool, true, false, cond}
-use mathlib.Core.List.{List, []}
-use Prim.Native.Nat.{ℕ, _+_, _^_, _≤_, _<_}
-use native.Mathlib.Omega.{arith}
-use lib.Dec.{eqb}
-use lib.ListN.{length, drop, getD, length-replicate}
-use lib.Seq.{drop-length}
-use borrow.Author.Tests.{eqb-true, eq-eqb, ne-eqb}
+use Rattle.prelude.proofs.{_≡_, refl, sym, ap, _∙_, List, [], ℕ, _+_, _^_, _≤_, _<_, arith, eqb, length, drop}
+use Rattle.prelude.proofs.{getD, length-replicate, drop-length, eqb-true, eq-eqb, ne-eqb}
 use Rattle.blocks.specs.Bytes.{Bytes}
-use Rattle.blocks.proofs.Xor.{bytes-replicate}
-use Rattle.blocks.proofs.Parts.{part-length, part-bytes}
-use Rattle.blocks.proofs.Numbers.{part-lt}
-use Rattle.links.specs.Record.{numberSize}
-use Rattle.links.specs.Links.{freshSender}
-use Rattle.links.specs.declared.Sender.{Sender}
+use Rattle.blocks.proofs.{Xor.bytes-replicate, Parts.part-length, Parts.part-bytes, Numbers.part-lt}
+use Rattle.links.specs.{Record.numberSize, Links.freshSender, declared.Sender.Sender}
 use Rattle.layout.specs.Layout.{lastSize, numberAt, lastAt, keysAt}
-use Rattle.layout.proofs.LinkBytes.{bytes-say, bytes-said}
+use Rattle.layout.proofs.LinkBytes.{bytes-say, bytes-said, either}
 use Rattle.calls.specs.Demand.{Formed}
 use Rattle.sending.specs.Stored.{senderSize, senderAt, senderIn, senderBytes}
 
@@ -55,11 +44,6 @@ sender-bytes b h s f =
     })
 
 -- ---- what bytes say is formed
-
--- of two things, one where a test holds and one where it does not
-either : {A : Type 0} (P : A → Type 0) (t : Bool) {x y : A} → (t ≡ true → P x) → P y → P (cond t x y)
-either P true f g = f refl
-either P false f g = g
 
 pub sender-formed : (b : List ℕ) → Bytes b → Formed (senderIn b)
 sender-formed b h = either Formed (eqb (length b) senderSize) (λ e. said (eqb-true (length b) senderSize e)) fresh

@@ -1,10 +1,6 @@
 -- When the calls on a sending link return 0, and that each refusal has exactly its cause and changes no byte. Assumes nothing.
-use mathlib.Core.Path.{_≡_, sym}
-use mathlib.Core.List.{List, []}
-use mathlib.Core.Logic.{_↔_}
-use Prim.Native.Nat.{ℕ, _≤_}
-use lib.ListN.{length}
-use Rattle.blocks.specs.Put.{put}
+use Rattle.prelude.proofs.{_≡_, sym, _↔_, List, [], ℕ, _≤_, length}
+use Rattle.blocks.specs.Bytes.{put}
 use Rattle.answers.specs.Answer.{refused, Accepts, FirstOf}
 use Rattle.answers.proofs.First.{refused-exactly, if-refused}
 use Rattle.calls.specs.Demand.{Accepted}

@@ -3,13 +3,12 @@ use mathlib.Core.List.{List, [], _∷_, _++_}
 use Prim.Native.Nat.{ℕ, _+_}
 use lib.Dec.{ltb}
 use lib.ListN.{length}
-use Rattle.blocks.specs.Number.{bigEndian}
+use Rattle.blocks.specs.Bytes.{bigEndian}
 use Rattle.answers.specs.Answer.{Answer, done, Cause, _when_, first, ifDone, output}
 use Rattle.links.specs.Record.{standard, recordSize}
 use Rattle.links.specs.Links.{senderKeys, senderOf}
 use Rattle.layout.specs.Keying.{keyingAnswer}
-use Rattle.masking.specs.Shares.{flat}
-use Rattle.masking.specs.Tape.{at}
+use Rattle.masking.specs.Shares.{flat, at}
 use Rattle.calls.specs.Numbered.{tapeNeed}
 use Rattle.calls.specs.Sealed.{tagShares, sealedRecord}
 use Rattle.calls.specs.Entry.{inputCauses, advanced}

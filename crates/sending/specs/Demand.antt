@@ -2,9 +2,8 @@
 use mathlib.Core.List.{List}
 use Prim.Native.Nat.{ℕ}
 use lib.ListN.{length}
-use Rattle.blocks.specs.Bytes.{Bytes}
+use Rattle.blocks.specs.Bytes.{Bytes, blockCount}
 use Rattle.answers.specs.Answer.{Accepts}
-use Rattle.modes.specs.Pieces.{blockCount}
 use Rattle.masking.specs.OneTape.{Shows}
 use Rattle.calls.specs.Demand.{shown, masksOf, keyMaskOf}
 use Rattle.sending.specs.Stored.{senderIn}

@@ -7,14 +7,12 @@ ghost use mathlib.Core.List.{_++_};
 ghost use Prim.Native.Nat.{_≤_};
 ghost use lib.Dec.{ltb};
 ghost use lib.ListN.{length, getD};
-ghost use Rattle.blocks.specs.Number.{bigEndian};
-ghost use Rattle.blocks.specs.Put.{put};
+ghost use Rattle.blocks.specs.Bytes.{bigEndian, put};
 ghost use Rattle.answers.specs.Answer.{numberOf, valuesOf};
 ghost use Rattle.calls.specs.Entry.{reportAnswer, reportOutput};
 ghost use Rattle.sealing.specs.Says.{sealSays};
 ghost use Rattle.sending.specs.Stored.{senderSize, senderIn, senderBytes};
-ghost use Rattle.sending.specs.Calls.{senderKeying, keyedSender, countSize, sharesSize};
-ghost use Rattle.sending.specs.Calls.{sealedAnswer, sealedLink, recordOutput, sharesOutput};
+ghost use Rattle.sending.specs.Calls.{countSize, sharesSize, sealedAnswer, sealedLink, recordOutput, sharesOutput};
 
 // The bytes of a link, with no tail.
 const SIZE: usize = layout::KEYS_AT + 96;
@@ -50,26 +48,6 @@ fn store(x: Sender, bytes: &mut [u8])
     let ke = x.ke;
     let km = x.km;
     layout::put_link(x.keyed, x.number, x.last, &ke, &km, b"", bytes);
-}
-
-// ---- keying
-
-// Keys a sending link: three shares of KE, then three of KM.
-pub fn key(link: &mut [u8], number: u32, keys: &[u8]) -> u32
-    ensures { λ r. ⌜ r ≡ numberOf (senderKeying (now (link .entry)) (now (keys .entry))) ⌝ }
-    ensures { λ r. ⌜ now (link .exit) ≡ keyedSender (now (link .entry)) number (now (keys .entry)) ⌝ }
-{
-    if link.len() != SIZE {
-        return 1;
-    }
-    let keying = Sender::fresh().key(number, keys);
-    let answer = keying.answer;
-    let n = answer.number();
-    if n == 0 {
-        let next = keying.link;
-        store(next, link);
-    }
-    n
 }
 
 // ---- sealing
@@ -146,6 +124,6 @@ pub fn report(
     ensures { λ r. let x = senderIn (now (link .entry)) in
         ⌜ now (out .exit) ≡ reportOutput x (now (message .entry)) (now (tape .entry)) call round lane (now (out .entry)) ⌝ }
 {
-    let answer = sealing::report(load(link), message, tape, call, round, lane, out);
+    let answer = reporting::report(load(link), message, tape, call, round, lane, out);
     answer.number()
 }

@@ -1,19 +1,13 @@
 -- Rounds on packed shares, one after the other, and their place in a call. Assumes nothing.
-use mathlib.Core.Path.{_≡_, refl, sym, ap, _∙_, fun-ext}
-use mathlib.Core.List.{List}
-use Prim.Native.Nat.{ℕ, zero, suc, _+_, _-_, _*_, _≤_}
-use native.Mathlib.Nat.{add-suc}
-use native.Mathlib.Omega.{arith}
+use Rattle.prelude.proofs.{_≡_, refl, sym, ap, _∙_, fun-ext, List, ℕ, zero, suc, _+_, _-_, _*_, _≤_, add-suc, arith}
 use Rattle.baksheesh.specs.Baksheesh.{rotated}
 use Rattle.baksheesh.proofs.Steps.{rotated-zero, rotated-suc}
 use Rattle.words.proofs.Words.{unpacked-block}
 use Rattle.blocks.proofs.ByBits.{rearranged-twice}
-use Rattle.shares.specs.declared.Triple.{Triple}
-use Rattle.masking.specs.Shares.{i₀, i₁, i₂, Shares, Blocks, add, each, spread}
-use Rattle.masking.specs.Tape.{Reader, pairSize, masksAt}
+use Rattle.shares.specs.{declared.Triple.Triple, Packed.sharesOf, Packed.onward, Packed.met}
+use Rattle.masking.specs.Shares.{i₀, i₁, i₂, Shares, Blocks, add, each, spread, Reader, pairSize, masksAt}
 use Rattle.masking.specs.Stages.{state, call, masked, shownShares}
 use Rattle.masking.specs.Call.{shareRound, encryption, pairCount}
-use Rattle.shares.specs.Packed.{sharesOf, onward, met}
 
 pub packed-blocks : (s : Triple) → Blocks (sharesOf s)
 packed-blocks s i₀ = unpacked-block (s .a)

@@ -1,24 +1,14 @@
 -- Shares in packed form: the shared S-box by words, and steps share by share. Assumes nothing.
-use mathlib.Core.Path.{_≡_, refl, sym, ap, _∙_}
-use mathlib.Core.Bool.{Bool, true, false, cond}
-use mathlib.Core.List.{List, [], _∷_}
-use Prim.Native.Nat.{ℕ, _+_, _*_, _<_}
-use native.Mathlib.Omega.{arith}
-use lib.ListN.{getD}
-use lib.Bits.{bitXor, bitAnd}
+use Rattle.prelude.proofs.{_≡_, refl, sym, ap, _∙_, Bool, true, false, cond, List, [], _∷_, ℕ, _+_, _*_, _<_, arith, bitXor, bitAnd, getD}
 use Rattle.bits.specs.Bit.{bit}
-use Rattle.bits.proofs.Laws.{bit-zero, bit-xor, bit-and}
-use Rattle.bits.proofs.Test.{four}
-use Rattle.blocks.specs.Bytes.{_⊕_, zeros}
-use Rattle.blocks.specs.Bits.{bitAt, blockOf, cells}
-use Rattle.blocks.proofs.Xor.{⊕-zero}
-use Rattle.blocks.proofs.ByBits.{cells-same, rearranged-block}
+use Rattle.bits.proofs.{Laws.bit-zero, Laws.bit-xor, Laws.bit-and, Test.four}
+use Rattle.blocks.specs.{Bytes._⊕_, Bytes.zeros, Bits.bitAt, Bits.blockOf, Bits.cells}
+use Rattle.blocks.proofs.{Xor.⊕-zero, ByBits.cells-same, ByBits.rearranged-block}
 use Rattle.baksheesh.specs.Baksheesh.{from, permBits, constant}
 use Rattle.words.specs.Words.{unpacked}
 use Rattle.words.proofs.Words.{bit-unpacked, words, ones}
 use Rattle.masking.specs.Shares.{i₀, i₁, i₂, Shares, three}
-use Rattle.masking.specs.Sbox.{shareBit, sboxShare}
-use Rattle.masking.specs.Call.{laneRound, shareRound}
+use Rattle.masking.specs.{Sbox.shareBit, Sbox.sboxShare, Call.laneRound, Call.shareRound}
 use Rattle.masking.proofs.Shape.{shares-same}
 
 pub ones-if : (one : Bool) (i : ℕ) → i < 32 → bit (cond one 0xffff_ffff 0) i ≡ one

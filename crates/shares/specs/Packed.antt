@@ -6,8 +6,7 @@ use Rattle.words.specs.Words.{unpacked}
 use Rattle.shares.specs.declared.Triple.{Triple}
 use Rattle.shares.specs.declared.Progress.{Progress}
 use Rattle.shares.specs.declared.Called.{Called}
-use Rattle.masking.specs.Shares.{Shares, three, add, each}
-use Rattle.masking.specs.Tape.{Reader, pairSize, masksAt}
+use Rattle.masking.specs.Shares.{Shares, three, add, each, Reader, pairSize, masksAt}
 use Rattle.masking.specs.Stages.{call, masked, shownShares}
 use Rattle.masking.specs.Call.{shareRound, encryption, callSize}
 

@@ -12,9 +12,8 @@ ghost use Prim.Native.Nat.{_+_, _-_, _*_, _≤_, _<_};
 ghost use lib.ListN.{length};
 ghost use Rattle.baksheesh.specs.Baksheesh.{rounds, rotated};
 ghost use Rattle.words.specs.Words.{unpacked};
-ghost use Rattle.masking.specs.Shares.{spread, each, sharesIn, flat, add as addShares, only as onlyShare};
+ghost use Rattle.masking.specs.Shares.{spread, each, sharesIn, flat, add as addShares, only as onlyShare, at, pairSize};
 ghost use Rattle.masking.specs.Sbox.{sboxShare};
-ghost use Rattle.masking.specs.Tape.{at, pairSize};
 ghost use Rattle.masking.specs.Call.{laneRound, shareRound, pairCount, callSize};
 ghost use Rattle.shares.specs.Packed.{sharesOf, Onward, CallDone};
 

@@ -20,24 +20,23 @@ pub fn word(text: &[u8]) {
     io::write_all(STDOUT_FILENO, text);
 }
 
-// A number in decimal digits, behind a space.
+// A number in decimal digits, and a space.
 pub fn number(n: u64) {
-    io::write_all(STDOUT_FILENO, b" ");
     io::print_decimal(STDOUT_FILENO, n);
+    word(b" ");
 }
 
-// Bytes in hexadecimal digits, or `-` for none, behind a space; they end the line.
+// Bytes in hexadecimal digits, or `-` for none; they end the line.
 pub fn bytes(s: &[u8]) {
-    io::write_all(STDOUT_FILENO, b" ");
     if s.len() == 0 {
-        io::write_all(STDOUT_FILENO, b"-");
+        word(b"-");
     }
     let mut i = 0;
     while i < s.len() {
         io::print_hex(STDOUT_FILENO, wide(s[i]), 2);
         i += 1;
     }
-    io::write_all(STDOUT_FILENO, b"\n");
+    word(b"\n");
 }
 
 // The first n of the bytes, or all of them where there are fewer.
@@ -51,7 +50,7 @@ pub fn front(s: &[u8], n: usize) {
 
 // What was tried, and the number that it gave.
 pub fn tried(what: &[u8], n: u64) {
-    io::write_all(STDOUT_FILENO, what);
-    number(n);
-    io::write_all(STDOUT_FILENO, b"\n");
+    word(what);
+    io::print_decimal(STDOUT_FILENO, n);
+    word(b"\n");
 }

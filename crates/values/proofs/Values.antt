@@ -1,9 +1,8 @@
 -- The values hold: antt computes each row. Assumes nothing.
-use mathlib.Core.Path.{refl}
+use Rattle.prelude.proofs.{refl}
 use Rattle.bits.specs.Bit.{bit}
-use Rattle.blocks.specs.Bytes.{_⊕_, zeros}
+use Rattle.blocks.specs.Bytes.{_⊕_, zeros, bigEndian}
 use Rattle.blocks.specs.Bits.{blockOf, bitAt, cells, rearranged, eachCell}
-use Rattle.blocks.specs.Number.{bigEndian}
 use Rattle.baksheesh.specs.Baksheesh.{constant}
 use Rattle.modes.specs.Cmac.{doubled}
 use Rattle.links.specs.Record.{counterBlock, recordOf}

@@ -1,14 +1,7 @@
 -- The round constants as a table of words, with a mask for each word of the packed form. Assumes nothing.
-use mathlib.Core.Path.{_≡_, sym, ap, _∙_}
-use mathlib.Core.Bool.{Bool, _&&_, Bool·beq}
-use mathlib.Core.List.{List, [], _∷_, map}
-use Prim.Native.Nat.{ℕ, _+_, _*_, _/_, _^_, _<_}
-use lib.Dec.{T}
-use lib.ListN.{getD}
-use lib.Bits.{bitXor, bitAnd}
+use Rattle.prelude.proofs.{_≡_, sym, ap, _∙_, Bool, _&&_, Bool·beq, List, [], _∷_, map, ℕ, _+_, _*_, _/_, _^_, _<_, T, bitXor, bitAnd, getD}
 use Rattle.bits.specs.Bit.{bit, odd, number, _⊻_}
-use Rattle.bits.proofs.Laws.{bit-xor, bit-and}
-use Rattle.bits.proofs.Test.{each, below, beq→eq}
+use Rattle.bits.proofs.{Laws.bit-xor, Laws.bit-and, Test.each, Test.below, Test.beq→eq}
 use Rattle.blocks.specs.Bytes.{_⊕_}
 use Rattle.baksheesh.specs.Baksheesh.{rounds, constants, taps, tapped, constant}
 use Rattle.words.specs.Words.{unpacked}

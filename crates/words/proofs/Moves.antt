@@ -1,13 +1,5 @@
 -- Words that hold the bits of a block in some order, shown by a test for each word. Assumes nothing.
-use mathlib.Core.Path.{_≡_, sym, _∙_}
-use mathlib.Core.Bool.{Bool, _&&_}
-use mathlib.Core.List.{List, [], _∷_}
-use Prim.Native.Nat.{ℕ, _+_, _*_, _/_, _%_}
-use native.Mathlib.Omega.{arith}
-use mir.Syntax.{w32}
-use mir.Val.{Fits}
-use lib.Dec.{T, ltb}
-use lib.ListN.{getD}
+use Rattle.prelude.proofs.{_≡_, sym, _∙_, Bool, _&&_, List, [], _∷_, ℕ, _+_, _*_, _/_, _%_, arith, T, ltb, getD, w32, Fits}
 use Rattle.bits.proofs.Test.{each}
 use Rattle.bits.proofs.XorOfBits.{Made, Places, own, input, same, moved}
 use Rattle.blocks.specs.Bits.{rearranged}

@@ -1,11 +1,5 @@
 -- What the cipher's steps say of a block in packed form. Assumes nothing.
-use mathlib.Core.Path.{_≡_, refl, ap, ap₂, _∙_}
-use mathlib.Core.Bool.{Bool, true, false}
-use mathlib.Core.List.{List, [], _∷_}
-use Prim.Native.Nat.{ℕ, _+_, _*_, _/_, _%_, _<_}
-use native.Mathlib.Omega.{arith}
-use lib.Dec.{T}
-use lib.ListN.{getD}
+use Rattle.prelude.proofs.{_≡_, refl, ap, ap₂, _∙_, Bool, true, false, List, [], _∷_, ℕ, _+_, _*_, _/_, _%_, _<_, arith, T, getD}
 use Rattle.bits.specs.Bit.{bit, _⊻_}
 use Rattle.bits.proofs.Test.{below, four}
 use Rattle.blocks.specs.Bytes.{Block, _⊕_}

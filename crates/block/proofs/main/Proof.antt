@@ -1,19 +1,11 @@
 -- `main` is safe: the answer lies inside its buffer. Assumes nothing.
-use mathlib.Core.Path.{sym}
-use lib.Seq.{length-take-le}
-use borrow.Author.Needs.{needs}
+use Rattle.prelude.proofs.{sym, length-take-le, needs}
 use Rattle.block.proofs.Printed.{inside}
-use Rattle.block.proofs.main.Statement.{statement}
-use Rattle.block.proofs.main.Tie as tie
+use Rattle.block.proofs.main as fn
 
-array-share-prefix-out : tie.Need-array-share-prefix-out
+array-share-prefix-out : fn.Tie.Need-array-share-prefix-out
 array-share-prefix-out c = inside _ _ _ _ (c .before .answer .ensures) (search needs)
 
-slice-aggregate-write-all : tie.Need-slice-aggregate-write-all
-slice-aggregate-write-all c = sym (length-take-le _ _ (array-share-prefix-out (c .before)))
-
-pub main-spec : {M : Type 1} → statement M
-main-spec =
-    tie.close
-    (tie.spec (λ c. search needs) (λ c κs. search needs) (λ c. search needs) (λ c κs. search needs) array-share-prefix-out
-    slice-aggregate-write-all (λ c κs. search needs) (λ c. search needs))
+pub main-spec : {M : Type 1} → fn.Statement.statement M
+main-spec = fn.Tie.close (fn.Tie.spec (λ c. search needs) (λ c κs. search needs) (λ c. search needs) (λ c κs. search needs)
+    array-share-prefix-out (λ c. sym (length-take-le _ _ (array-share-prefix-out (c .before)))) (λ c κs. search needs) (λ c. search needs))

@@ -1,18 +1,13 @@
 -- `block_at` meets its contract: a part written over zeros. Assumes nothing.
-use mathlib.Core.Path.{refl, _∙_}
-use native.Mathlib.Omega.{arith}
-use borrow.Author.Needs.{needs}
+use Rattle.prelude.proofs.{refl, _∙_, arith, needs}
 use Rattle.blocks.proofs.Parts.{put-part}
-use Rattle.blocks.proofs.block_at.Statement.{statement}
-use Rattle.blocks.proofs.block_at.Tie as tie
+use Rattle.blocks.proofs.block_at as fn
 
-returns : tie.Need-returns
+returns : fn.Tie.Need-returns
 returns c =
     let a = c .before .before .before .before .before .args in
     c .before .put-bytes .ensures ∙ put-part (a .at) 16 (a .s .now) _ (omega arith) refl
 
-pub block-at-spec : {M : Type 1} → statement M
-block-at-spec =
-    tie.close
-    (tie.spec (λ c. search needs) (λ c. search needs) (λ c. search needs) (λ c. search needs) (λ c. search needs)
-    (λ c κs. search needs) returns)
+pub block-at-spec : {M : Type 1} → fn.Statement.statement M
+block-at-spec = fn.Tie.close (fn.Tie.spec (λ c. search needs) (λ c. search needs) (λ c. search needs) (λ c. search needs)
+    (λ c. search needs) (λ c κs. search needs) returns)

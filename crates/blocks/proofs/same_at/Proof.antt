@@ -1,23 +1,16 @@
 -- `same_at` meets its contract. The loop has compared the first i bytes. Assumes nothing.
-use mathlib.Core.Path.{_≡_, refl, ap, _∙_}
-use mathlib.Core.Logic.{⊎-elim}
-use Prim.Native.Nat.{ℕ, _-_, _≤_}
-use native.Mathlib.Omega.{arith}
-use lib.ListN.{length, take}
-use borrow.Author.Needs.{needs}
-use Rattle.blocks.specs.Bytes.{sameBytes}
-use Rattle.blocks.specs.Put.{part}
+use Rattle.prelude.proofs.{_≡_, refl, ap, _∙_, ⊎-elim, ℕ, _-_, _≤_, arith, length, take, needs}
+use Rattle.blocks.specs.Bytes.{sameBytes, part}
 use Rattle.blocks.proofs.Same.{compared, compare-same, compare-other}
-use Rattle.blocks.proofs.same_at.Statement.{statement}
-use Rattle.blocks.proofs.same_at.Tie as tie
+use Rattle.blocks.proofs.same_at as fn
 
-abbrev Inv-loop : tie.InvT-loop
+abbrev Inv-loop : fn.Tie.InvT-loop
 Inv-loop n s at block same₀ i₀ same i = (i ≤ n) × (same ≡ sameBytes (take i block) (part at i s))
 
-abbrev μ-loop : tie.MeasureT-loop
+abbrev μ-loop : fn.Tie.MeasureT-loop
 μ-loop n s at block same₀ i₀ same i = n - i
 
-loop-again : tie.Need-loop-again Inv-loop μ-loop
+loop-again : fn.Tie.Need-loop-again Inv-loop μ-loop
 loop-again c =
     let l = c .before .before .before .loop in
     let a = c .before .before .before .before .args in
@@ -28,15 +21,13 @@ loop-again c =
           (c .if1 .came),
     )
 
-returns : tie.Need-returns Inv-loop μ-loop
+returns : fn.Tie.Need-returns Inv-loop μ-loop
 returns c =
     let l = c .before .loop in
     let a = c .before .before .args in
     let e : l .i ≡ a .n = omega arith in
     l .inv .1 ∙ ap (λ (i : ℕ). compared (a .t1) (a .s .now) (a .at) i) e
 
-pub same-at-spec : {M : Type 1} → statement M
-same-at-spec =
-    tie.close
-    (tie.spec Inv-loop μ-loop (λ c. (search needs, refl)) (λ c. search needs) (λ c. search needs) (λ c. search needs)
-    (λ c. search needs) (λ c. search needs) loop-again returns)
+pub same-at-spec : {M : Type 1} → fn.Statement.statement M
+same-at-spec = fn.Tie.close (fn.Tie.spec Inv-loop μ-loop (λ c. (search needs, refl)) (λ c. search needs) (λ c. search needs)
+    (λ c. search needs) (λ c. search needs) (λ c. search needs) loop-again returns)

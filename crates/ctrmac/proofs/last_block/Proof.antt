@@ -1,20 +1,13 @@
 -- `last_block` meets its contract: the padded block and the whole one. Assumes nothing.
-use mathlib.Core.Path.{_≡_, sym, ap₂, _∙_}
-use Prim.Native.Nat.{_<_}
-use native.Mathlib.Omega.{arith}
-use lib.ListN.{length}
-use borrow.Author.Needs.{needs}
-use Rattle.blocks.specs.Bytes.{_⊕_}
+use Rattle.prelude.proofs.{_≡_, sym, ap₂, _∙_, _<_, arith, length, needs}
+use Rattle.blocks.specs.Bytes.{_⊕_, piece}
 use Rattle.baksheesh.specs.Baksheesh.{encrypt}
 use Rattle.words.specs.Words.{unpacked}
-use Rattle.modes.specs.Pieces.{piece}
 use Rattle.modes.specs.Cmac.{subkey₁, subkey₂}
-use Rattle.modes.proofs.Pieces.{piece-length}
-use Rattle.modes.proofs.Cmac.{last-whole, last-padded}
-use Rattle.ctrmac.proofs.last_block.Statement.{statement}
-use Rattle.ctrmac.proofs.last_block.Tie as tie
+use Rattle.modes.proofs.{Pieces.piece-length, Cmac.last-whole, Cmac.last-padded}
+use Rattle.ctrmac.proofs.last_block as fn
 
-returns : tie.Need-returns
+returns : fn.Tie.Need-returns
 returns c =
     let subkey = c .before .before .before in
     let a = subkey .before .before .before .before .args in
@@ -22,7 +15,7 @@ returns c =
     let k : unpacked (subkey .pack .result) ≡ subkey₂ (encrypt (unpacked (a .key))) = subkey .pack .ensures ∙ search needs in
     c .add .ensures ∙ ap₂ _⊕_ k (c .before .pack2 .ensures ∙ c .before .before .padded-at .ensures) ∙ sym (last-padded _ _ h)
 
-returns-2 : tie.Need-returns-2
+returns-2 : fn.Tie.Need-returns-2
 returns-2 c =
     let subkey = c .before .before .before in
     let a = subkey .before .before .before .before .args in
@@ -30,9 +23,7 @@ returns-2 c =
     let k : unpacked (subkey .pack3 .result) ≡ subkey₁ (encrypt (unpacked (a .key))) = subkey .pack3 .ensures ∙ search needs in
     c .add2 .ensures ∙ ap₂ _⊕_ k (c .before .pack4 .ensures ∙ c .before .before .block-at .ensures) ∙ sym (last-whole _ _ h)
 
-pub last-block-spec : {M : Type 1} → statement M
-last-block-spec =
-    tie.close
-    (tie.spec (λ c. search needs) (λ c. search needs) (λ c κs. search needs) (λ c κs. search needs) (λ c κs. search needs)
-    (λ c κs. search needs) (λ c κs. search needs) returns (λ c κs. search needs) (λ c κs. search needs) (λ c κs. search needs)
-    (λ c κs. search needs) (λ c κs. search needs) returns-2)
+pub last-block-spec : {M : Type 1} → fn.Statement.statement M
+last-block-spec = fn.Tie.close (fn.Tie.spec (λ c. search needs) (λ c. search needs) (λ c κs. search needs) (λ c κs. search needs)
+    (λ c κs. search needs) (λ c κs. search needs) (λ c κs. search needs) returns (λ c κs. search needs) (λ c κs. search needs)
+    (λ c κs. search needs) (λ c κs. search needs) (λ c κs. search needs) returns-2)

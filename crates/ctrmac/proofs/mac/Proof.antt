@@ -1,20 +1,14 @@
 -- `mac` meets its contract: for an empty text, and for one with a last block. Assumes nothing.
-use mathlib.Core.Path.{_≡_, sym, ap, ap₂, _∙_}
-use mathlib.Core.List.{List}
-use Prim.Native.Nat.{ℕ, _-_, _/_}
-use lib.ListN.{length}
-use borrow.Author.Needs.{needs}
-use Rattle.blocks.specs.Bytes.{_⊕_}
+use Rattle.prelude.proofs.{_≡_, sym, ap, ap₂, _∙_, List, ℕ, _-_, _/_, length, needs}
+use Rattle.blocks.specs.Bytes.{_⊕_, piece}
 use Rattle.baksheesh.specs.Baksheesh.{encrypt}
 use Rattle.words.specs.Words.{unpacked}
-use Rattle.modes.specs.Pieces.{piece}
 use Rattle.modes.specs.Cmac.{subkey₁, lastBlock, chain}
 use Rattle.links.specs.Record.{counterBlock}
 use Rattle.ctrmac.proofs.Authenticated.{mac-empty, mac-last}
-use Rattle.ctrmac.proofs.mac.Statement.{statement}
-use Rattle.ctrmac.proofs.mac.Tie as tie
+use Rattle.ctrmac.proofs.mac as fn
 
-returns : tie.Need-returns
+returns : fn.Tie.Need-returns
 returns c =
     let sum = c .before .before in
     let front = sum .before .before .before .before in
@@ -27,7 +21,7 @@ returns c =
     ∙ (λ i. encrypt (key .ensures i) (subkey₁ (encrypt (key .ensures i)) ⊕ counterBlock (a .number) (a .sequence) 0))
     ∙ sym (mac-empty _ _ _ _ (search needs))
 
-returns-2 : tie.Need-returns-2
+returns-2 : fn.Tie.Need-returns-2
 returns-2 c =
     let sum = c .before .before in
     let chained = sum .before .before in
@@ -47,10 +41,8 @@ returns-2 c =
     E (chain E (E (counterBlock (a .number) (a .sequence) 0)) (a .text .now) n ⊕ lastBlock E (piece n (a .text .now))))
     ∙ sym (mac-last _ _ _ _ (search needs))
 
-pub mac-spec : {M : Type 1} → statement M
-mac-spec =
-    tie.close
-    (tie.spec (λ c κs. search needs) (λ c κs. search needs) (λ c κs. search needs) (λ c κs. search needs) (λ c κs. search needs)
-    (λ c κs. search needs) (λ c κs. search needs) (λ c κs. search needs) returns (λ c. search needs) (λ c κs. search needs)
-    (λ c κs. search needs)
-    (λ c κs. search needs) (λ c κs. search needs) (λ c κs. search needs) (λ c κs. search needs) returns-2)
+pub mac-spec : {M : Type 1} → fn.Statement.statement M
+mac-spec = fn.Tie.close (fn.Tie.spec (λ c κs. search needs) (λ c κs. search needs) (λ c κs. search needs) (λ c κs. search needs)
+    (λ c κs. search needs) (λ c κs. search needs) (λ c κs. search needs) (λ c κs. search needs) returns (λ c. search needs)
+    (λ c κs. search needs) (λ c κs. search needs) (λ c κs. search needs) (λ c κs. search needs) (λ c κs. search needs)
+    (λ c κs. search needs) returns-2)

@@ -1,16 +1,8 @@
 -- `blocks_long` meets its contract. Assumes nothing.
-use borrow.Author.Tests.{eq-eqb, ne-eqb}
-use Rattle.engines.proofs.blocks_long.Statement.{statement}
-use Rattle.engines.proofs.blocks_long.Tie as tie
+use Rattle.prelude.proofs.{eq-eqb, ne-eqb}
+use Rattle.engines.proofs.blocks_long as fn
 
-returns : tie.Need-returns
-returns c = simp (ne-eqb _ _ (c .if1 .taken))
-
-returns-2 : tie.Need-returns-2
-returns-2 c = simp (eq-eqb _ _ (c .before .if1 .left), ne-eqb _ _ (c .if2 .taken))
-
-returns-3 : tie.Need-returns-3
-returns-3 c = simp (eq-eqb _ _ (c .before .if1 .left), eq-eqb _ _ (c .if2 .left))
-
-pub blocks-long-spec : {M : Type 1} → statement M
-blocks-long-spec = tie.close (tie.spec returns returns-2 returns-3)
+pub blocks-long-spec : {M : Type 1} → fn.Statement.statement M
+blocks-long-spec = fn.Tie.close (fn.Tie.spec (λ c. simp (ne-eqb _ _ (c .if1 .taken)))
+    (λ c. simp (eq-eqb _ _ (c .before .if1 .left), ne-eqb _ _ (c .if2 .taken)))
+    (λ c. simp (eq-eqb _ _ (c .before .if1 .left), eq-eqb _ _ (c .if2 .left))))

@@ -1,10 +1,7 @@
 -- `ciphered` meets its contract, by the engines'. Assumes nothing.
-use borrow.Author.Needs.{needs}
-use Rattle.engines.proofs.ciphered.Statement.{statement}
-use Rattle.engines.proofs.ciphered.Tie as tie
+use Rattle.prelude.proofs.{needs}
+use Rattle.engines.proofs.ciphered as fn
 
-pub ciphered-spec : {M : Type 1} → statement M
-ciphered-spec =
-    tie.close
-    (tie.spec (λ c. search needs) (λ c κs. search needs) (λ c. search needs) (λ c κs. search needs) (λ c. search needs)
-    (λ c κs. search needs) (λ c. search needs) (λ c κs. search needs) (λ c. cc) (λ c. cc) (λ c. cc) (λ c. cc))
+pub ciphered-spec : {M : Type 1} → fn.Statement.statement M
+ciphered-spec = fn.Tie.close (fn.Tie.spec (λ c. search needs) (λ c κs. search needs) (λ c. search needs) (λ c κs. search needs)
+    (λ c. search needs) (λ c κs. search needs) (λ c. search needs) (λ c κs. search needs) (λ c. cc) (λ c. cc) (λ c. cc) (λ c. cc))

@@ -1,17 +1,15 @@
 -- `digit` meets its contract. Assumes nothing.
-use borrow.Author.Tests.{lt-ltb, le-ltb}
-use borrow.Author.Needs.{needs}
+use Rattle.prelude.proofs.{needs, lt-ltb, le-ltb}
 use Rattle.hex.specs.Hex.{glyph}
-use Rattle.hex.proofs.digit.Statement.{statement}
-use Rattle.hex.proofs.digit.Tie as tie
+use Rattle.hex.proofs.digit as fn
 
-returns : tie.Need-returns
+returns : fn.Tie.Need-returns
 unfolding glyph
 returns c = simp (lt-ltb _ _ (c .if1 .taken))
 
-returns-2 : tie.Need-returns-2
+returns-2 : fn.Tie.Need-returns-2
 unfolding glyph
 returns-2 c = simp (le-ltb _ _ (c .if1 .left))
 
-pub digit-spec : {M : Type 1} → statement M
-digit-spec = tie.close (tie.spec (λ c. search needs) (λ c. search needs) returns returns-2)
+pub digit-spec : {M : Type 1} → fn.Statement.statement M
+digit-spec = fn.Tie.close (fn.Tie.spec (λ c. search needs) (λ c. search needs) returns returns-2)

@@ -1,15 +1,9 @@
 -- `digits` meets its contract. Assumes nothing.
-use mathlib.Core.Path.{_∙_}
-use borrow.Author.Needs.{needs}
+use Rattle.prelude.proofs.{_∙_, needs}
 use Rattle.blocks.proofs.Parts.{put-whole}
 use Rattle.hex.proofs.Laws.{hex-length}
-use Rattle.hex.proofs.digits.Statement.{statement}
-use Rattle.hex.proofs.digits.Tie as tie
+use Rattle.hex.proofs.digits as fn
 
-returns : tie.Need-returns
-returns c = c .before .put-digits .ensures ∙ put-whole _ _ (hex-length _ ∙ search needs)
-
-pub digits-spec : {M : Type 1} → statement M
-digits-spec =
-    tie.close
-    (tie.spec (λ c. search needs) (λ c. search needs) (λ c κs. search needs) returns)
+pub digits-spec : {M : Type 1} → fn.Statement.statement M
+digits-spec = fn.Tie.close (fn.Tie.spec (λ c. search needs) (λ c. search needs) (λ c κs. search needs)
+    (λ c. c .before .put-digits .ensures ∙ put-whole _ _ (hex-length _ ∙ search needs)))

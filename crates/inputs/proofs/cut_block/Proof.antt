@@ -1,22 +1,13 @@
 -- `cut_block` meets its contract: the first bytes written over zeros. Assumes nothing.
-use mathlib.Core.Path.{_∙_}
-use native.Mathlib.Omega.{arith}
-use lib.ListN.{length-take, length-drop}
-use borrow.Author.Needs.{needs}
+use Rattle.prelude.proofs.{_∙_, arith, length-take, length-drop, needs}
 use Rattle.inputs.proofs.Texts.{cut-written}
-use Rattle.inputs.proofs.cut_block.Statement.{statement}
-use Rattle.inputs.proofs.cut_block.Tie as tie
+use Rattle.inputs.proofs.cut_block as fn
 
-put-bytes-requires : tie.Need-put-bytes-requires
-put-bytes-requires c κs = simp (length-take, length-drop) (omega arith)
-
-returns : tie.Need-returns
+returns : fn.Tie.Need-returns
 returns c =
     let a = c .before .before .before .before .before .args in
     c .before .put-bytes .ensures ∙ cut-written (a .at) (a .n) (a .s .now) (omega arith) (omega arith)
 
-pub cut-block-spec : {M : Type 1} → statement M
-cut-block-spec =
-    tie.close
-    (tie.spec (λ c. search needs) (λ c. search needs) (λ c. search needs) (λ c. search needs) (λ c. search needs)
-    put-bytes-requires returns)
+pub cut-block-spec : {M : Type 1} → fn.Statement.statement M
+cut-block-spec = fn.Tie.close (fn.Tie.spec (λ c. search needs) (λ c. search needs) (λ c. search needs) (λ c. search needs)
+    (λ c. search needs) (λ c κs. simp (length-take, length-drop) (omega arith)) returns)

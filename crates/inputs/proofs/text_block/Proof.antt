@@ -1,13 +1,11 @@
 -- `text_block` meets its contract, share by share. Assumes nothing.
-use mathlib.Core.Path.{sym, ap₂, _∙_}
-use borrow.Author.Needs.{needs}
+use Rattle.prelude.proofs.{sym, ap₂, _∙_, needs}
 use Rattle.blocks.specs.Bytes.{_⊕_}
 use Rattle.modes.proofs.Pieces.{piece-length}
 use Rattle.inputs.proofs.Texts.{text-shares}
-use Rattle.inputs.proofs.text_block.Statement.{statement}
-use Rattle.inputs.proofs.text_block.Tie as tie
+use Rattle.inputs.proofs.text_block as fn
 
-returns : tie.Need-returns
+returns : fn.Tie.Need-returns
 returns c =
     let added = c .before .before in
     let done = added .before .before in
@@ -22,9 +20,7 @@ returns c =
     (added .add .ensures ∙ ap₂ _⊕_ (done .before .pack .ensures) (added .before .pack2 .ensures))
     (c .before .pack3 .ensures) (c .pack4 .ensures)
 
-pub text-block-spec : {M : Type 1} → statement M
-text-block-spec =
-    tie.close
-    (tie.spec (λ c. search needs) (λ c κs. search needs) (λ c. search needs) (λ c κs. search needs) (λ c. search needs)
-    (λ c κs. search needs) (λ c. search needs) (λ c κs. search needs) (λ c κs. search needs) (λ c κs. search needs)
+pub text-block-spec : {M : Type 1} → fn.Statement.statement M
+text-block-spec = fn.Tie.close (fn.Tie.spec (λ c. search needs) (λ c κs. search needs) (λ c. search needs) (λ c κs. search needs)
+    (λ c. search needs) (λ c κs. search needs) (λ c. search needs) (λ c κs. search needs) (λ c κs. search needs) (λ c κs. search needs)
     (λ c κs. search needs) (λ c κs. search needs) (λ c κs. search needs) (λ c κs. search needs) returns)

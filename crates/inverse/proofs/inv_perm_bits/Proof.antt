@@ -1,11 +1,10 @@
 -- `inv_perm_bits` meets its contract: a test for each word of where its bits come from. Assumes nothing.
-use borrow.Author.Needs.{needs}
+use Rattle.prelude.proofs.{needs}
 use Rattle.bits.proofs.XorOfBits.{xored, shl, shr, through}
 use Rattle.words.proofs.Moves.{inputs, rearranges}
-use Rattle.inverse.proofs.inv_perm_bits.Statement.{statement}
-use Rattle.inverse.proofs.inv_perm_bits.Tie as tie
+use Rattle.inverse.proofs.inv_perm_bits as fn
 
-returns : tie.Need-returns
+returns : fn.Tie.Need-returns
 returns c =
     let c₃ = c .before in
     let c₂ = c₃ .before in
@@ -17,8 +16,6 @@ returns c =
     (through (xored (shr (w 2) 24) (shl (w 2) 8)) (c₃ .inv-perm-word3 .ok) _ (c₃ .inv-perm-word3 .ensures) tt)
     (through (w 3) (c .inv-perm-word4 .ok) _ (c .inv-perm-word4 .ensures) tt) tt tt tt tt tt
 
-pub inv-perm-bits-spec : {M : Type 1} → statement M
-inv-perm-bits-spec =
-    tie.close
-    (tie.spec (λ c. search needs) (λ c. search needs) (λ c. search needs) (λ c. search needs) (λ c κs. search needs)
-    (λ c κs. search needs) (λ c κs. search needs) (λ c κs. search needs) returns)
+pub inv-perm-bits-spec : {M : Type 1} → fn.Statement.statement M
+inv-perm-bits-spec = fn.Tie.close (fn.Tie.spec (λ c. search needs) (λ c. search needs) (λ c. search needs) (λ c. search needs)
+    (λ c κs. search needs) (λ c κs. search needs) (λ c κs. search needs) (λ c κs. search needs) returns)

@@ -1,12 +1,10 @@
 -- `put_link` meets its contract: six parts, one behind the other. Assumes nothing.
-use mathlib.Core.Path.{ap, _∙_}
-use borrow.Author.Needs.{needs}
-use Rattle.blocks.specs.Put.{put}
+use Rattle.prelude.proofs.{ap, _∙_, needs}
+use Rattle.blocks.specs.Bytes.{put}
 use Rattle.layout.proofs.LinkBytes.{written}
-use Rattle.layout.proofs.put_link.Statement.{statement}
-use Rattle.layout.proofs.put_link.Tie as tie
+use Rattle.layout.proofs.put_link as fn
 
-returns : tie.Need-returns
+returns : fn.Tie.Need-returns
 returns c =
     let tail = c .before .before in
     let km = tail .before .before .before .before in
@@ -22,9 +20,7 @@ returns c =
     ∙ written (a .keyed) _ (a .number) (a .last) (a .ke .now) (a .km .now) (a .tail .now) (a .bytes .now) (byte .flag-of .ensures)
     (start .pre)
 
-pub put-link-spec : {M : Type 1} → statement M
-put-link-spec =
-    tie.close
-    (tie.spec (λ c. search needs) (λ c. search needs) (λ c κs. search needs) (λ c. search needs) (λ c κs. search needs)
-    (λ c κs. search needs)
-    (λ c κs. search needs) (λ c κs. search needs) (λ c κs. search needs) (λ c κs. search needs) (λ c. search needs) returns)
+pub put-link-spec : {M : Type 1} → fn.Statement.statement M
+put-link-spec = fn.Tie.close (fn.Tie.spec (λ c. search needs) (λ c. search needs) (λ c κs. search needs) (λ c. search needs)
+    (λ c κs. search needs) (λ c κs. search needs) (λ c κs. search needs) (λ c κs. search needs) (λ c κs. search needs)
+    (λ c κs. search needs) (λ c. search needs) returns)

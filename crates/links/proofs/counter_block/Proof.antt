@@ -1,16 +1,11 @@
 -- `counter_block` meets its contract: three numbers written one behind the other over a whole block. Assumes nothing.
-use mathlib.Core.Path.{refl, ap, _∙_}
-use native.Mathlib.Omega.{arith}
-use borrow.Author.Needs.{needs}
-use Rattle.blocks.specs.Number.{bigEndian}
-use Rattle.blocks.specs.Put.{put}
-use Rattle.blocks.proofs.Numbers.{bigEndian-length}
-use Rattle.blocks.proofs.Parts.{put-three}
+use Rattle.prelude.proofs.{ap, _∙_, arith, needs}
+use Rattle.blocks.specs.Bytes.{bigEndian, put}
+use Rattle.blocks.proofs.{Numbers.bigEndian-length, Parts.put-three}
 use Rattle.links.specs.Record.{numberSize, indexSize, sequenceMost, counterBlock}
-use Rattle.links.proofs.counter_block.Statement.{statement}
-use Rattle.links.proofs.counter_block.Tie as tie
+use Rattle.links.proofs.counter_block as fn
 
-returns : tie.Need-returns
+returns : fn.Tie.Need-returns
 unfolding counterBlock
 returns c =
     let third = c .before in
@@ -24,8 +19,6 @@ returns c =
     ∙ put-three (bigEndian numberSize (a .number)) (bigEndian sequenceMost (a .sequence)) (bigEndian indexSize (a .i)) _ _ _
     (omega arith) (omega arith) (omega arith)
 
-pub counter-block-spec : {M : Type 1} → statement M
-counter-block-spec =
-    tie.close
-    (tie.spec (λ c. search needs) (λ c κs. search needs) (λ c. search needs) (λ c κs. search needs) (λ c. search needs)
-    (λ c. search needs) (λ c κs. search needs) returns)
+pub counter-block-spec : {M : Type 1} → fn.Statement.statement M
+counter-block-spec = fn.Tie.close (fn.Tie.spec (λ c. search needs) (λ c κs. search needs) (λ c. search needs) (λ c κs. search needs)
+    (λ c. search needs) (λ c. search needs) (λ c κs. search needs) returns)

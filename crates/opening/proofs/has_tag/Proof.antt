@@ -1,14 +1,10 @@
 -- `has_tag` meets its contract: the code of what was read, compared. Assumes nothing.
-use Prim.Native.Nat.{_-_}
-use native.Mathlib.Omega.{arith}
-use lib.ListN.{length}
-use borrow.Author.Needs.{needs}
+use Rattle.prelude.proofs.{_-_, arith, length, needs}
 use Rattle.baksheesh.specs.Baksheesh.{encrypt}
 use Rattle.opening.proofs.Answers.{tag-compared}
-use Rattle.opening.proofs.has_tag.Statement.{statement}
-use Rattle.opening.proofs.has_tag.Tie as tie
+use Rattle.opening.proofs.has_tag as fn
 
-returns : tie.Need-returns
+returns : fn.Tie.Need-returns
 returns c =
     let head = c .before .before .before .before .before in
     let a = head .before .before .args in
@@ -16,8 +12,6 @@ returns c =
     tag-compared (a .form) encrypt (a .link) (a .sealed .now) (a .sequence) (head .head .result) (end - head .head .result) end
     (search needs) (search needs) (head .head .ensures) (omega arith) (omega arith) (c .before .mac .ensures) (c .same-at .ensures)
 
-pub has-tag-spec : {M : Type 1} → statement M
-has-tag-spec =
-    tie.close
-    (tie.spec (λ c κs. search needs) (λ c. omega arith) (λ c. omega arith) (λ c. omega arith) (λ c. omega arith)
+pub has-tag-spec : {M : Type 1} → fn.Statement.statement M
+has-tag-spec = fn.Tie.close (fn.Tie.spec (λ c κs. search needs) (λ c. omega arith) (λ c. omega arith) (λ c. omega arith) (λ c. omega arith)
     (λ c κs. search needs) (λ c κs. omega arith) returns)

@@ -1,36 +1,26 @@
 -- `put_record` meets its contract: a record written field by field. Assumes nothing.
-use mathlib.Core.Path.{_≡_, sym, ap, _∙_}
-use mathlib.Core.List.{List}
-use Prim.Native.Nat.{ℕ, _+_}
-use native.Mathlib.Omega.{arith}
-use lib.ListN.{length, take}
-use lib.Seq.{length-take-le}
-use borrow.Author.Needs.{needs}
-use Rattle.blocks.specs.Put.{put}
+use Rattle.prelude.proofs.{_≡_, sym, _∙_, List, ℕ, _+_, arith, length, take, length-take-le, needs}
+use Rattle.blocks.specs.Bytes.{put}
 use Rattle.links.proofs.Fields.{record-put}
 use Rattle.outgoing.specs.Outgoing.{ciphertextOf}
 use Rattle.outgoing.proofs.Stream.{ciphertext-length}
-use Rattle.outgoing.proofs.put_record.Statement.{statement}
-use Rattle.outgoing.proofs.put_record.Tie as tie
+use Rattle.outgoing.proofs.put_record as fn
 
 -- from behind the joined code to the head's size, and to the start
-abbrev sized : tie.After-joined → tie.After-head
+abbrev sized : fn.Tie.After-joined → fn.Tie.After-head
 sized c = c .before .before .before .before .before .before .before .before .before
 
-abbrev start : tie.After-head → tie.Start
+abbrev start : fn.Tie.After-head → fn.Tie.Start
 start h = h .before .before .before .before
 
 -- the tag is as long as the form says
-tag-size : (c : tie.After-joined) → let f = start (sized c) .args .form in length (take (f .tag) (c .joined .result)) ≡ f .tag
+tag-size : (c : fn.Tie.After-joined) → let f = start (sized c) .args .form in length (take (f .tag) (c .joined .result)) ≡ f .tag
 tag-size c = let l : length (c .joined .result) ≡ 16 = search needs in length-take-le _ (c .joined .result) (omega arith)
 
-slice-aggregate-put-bytes : tie.Need-slice-aggregate-put-bytes
-slice-aggregate-put-bytes c = sym (tag-size (c .before))
-
-put-bytes-requires : tie.Need-put-bytes-requires
+put-bytes-requires : fn.Tie.Need-put-bytes-requires
 put-bytes-requires c κs = let l = tag-size (c .before .before) in omega arith
 
-returns : tie.Need-returns
+returns : fn.Tie.Need-returns
 returns c =
     let tagged = c .before .before .before .before .before in
     let filled = tagged .before .before .before in
@@ -46,8 +36,6 @@ returns c =
     ∙ (λ i. put end (take (a .form .tag) (tagged .joined .ensures i)) (written i))
     ∙ record-put (a .form) (a .number) (a .sequence) text (a .out .now) (omega (arith, p .1)) _ end (omega (arith, head .ensures))
 
-pub put-record-spec : {M : Type 1} → statement M
-put-record-spec =
-    tie.close
-    (tie.spec (λ c κs. search needs) (λ c. search needs) (λ c κs. search needs) (λ c κs. search needs) (λ c κs. search needs)
-    (λ c. search needs) slice-aggregate-put-bytes put-bytes-requires (λ c. search needs) returns)
+pub put-record-spec : {M : Type 1} → fn.Statement.statement M
+put-record-spec = fn.Tie.close (fn.Tie.spec (λ c κs. search needs) (λ c. search needs) (λ c κs. search needs) (λ c κs. search needs)
+    (λ c κs. search needs) (λ c. search needs) (λ c. sym (tag-size (c .before))) put-bytes-requires (λ c. search needs) returns)

@@ -1,10 +1,7 @@
 -- `decrypt` meets its contract, on the packed forms. Assumes nothing.
-use borrow.Author.Needs.{needs}
-use Rattle.packed.proofs.decrypt.Statement.{statement}
-use Rattle.packed.proofs.decrypt.Tie as tie
+use Rattle.prelude.proofs.{needs}
+use Rattle.packed.proofs.decrypt as fn
 
-returns : tie.Need-returns
-returns c = cc
-
-pub decrypt-spec : {M : Type 1} → statement M
-decrypt-spec = tie.close (tie.spec (λ c κs. search needs) (λ c κs. search needs) (λ c κs. search needs) (λ c κs. search needs) returns)
+pub decrypt-spec : {M : Type 1} → fn.Statement.statement M
+decrypt-spec = fn.Tie.close (fn.Tie.spec (λ c κs. search needs) (λ c κs. search needs) (λ c κs. search needs) (λ c κs. search needs)
+    (λ c. cc))

@@ -1,28 +1,20 @@
 -- `decrypt_words` meets its contract. With n rounds left, the key is rotated by n, and what lies n rounds back
 -- is what lay all rounds back. Assumes nothing.
-use borrow.Author.Needs.{needs}
-use mathlib.Core.Path.{_≡_, refl, sym, ap, _∙_}
-use mathlib.Core.List.{List}
-use Prim.Native.Nat.{ℕ, suc, _-_, _≤_}
-use native.Mathlib.Omega.{arith}
+use Rattle.prelude.proofs.{_≡_, refl, sym, ap, _∙_, List, ℕ, suc, _-_, _≤_, arith, needs}
 use Rattle.baksheesh.specs.Baksheesh.{rounds, rotated, invRound, before, decrypt}
 use Rattle.baksheesh.proofs.Steps.{rotated-back}
 use Rattle.words.specs.Words.{unpacked}
-use Rattle.packed.proofs.decrypt_words.Statement.{statement}
-use Rattle.packed.proofs.decrypt_words.Tie as tie
+use Rattle.packed.proofs.decrypt_words as fn
 
-abbrev Inv-loop : tie.InvT-loop
+abbrev Inv-loop : fn.Tie.InvT-loop
 Inv-loop key k₀ s₀ n₀ k s n =
     (n ≤ rounds) × (unpacked k ≡ rotated n (unpacked key))
     × (before n (unpacked key) (unpacked s) ≡ before rounds (unpacked key) (unpacked s₀))
 
-abbrev μ-loop : tie.MeasureT-loop
+abbrev μ-loop : fn.Tie.MeasureT-loop
 μ-loop key k₀ s₀ n₀ k s n = n
 
-loop-holds : tie.Need-loop-holds Inv-loop μ-loop
-loop-holds c = (omega arith, c .rotate-all .ensures, refl)
-
-loop-again : tie.Need-loop-again Inv-loop μ-loop
+loop-again : fn.Tie.Need-loop-again Inv-loop μ-loop
 unfolding before
 loop-again c =
     let at = c .before .before .before in
@@ -41,15 +33,13 @@ none-back : (k x : List ℕ) → before 0 k x ≡ x
 unfolding before
 none-back k x = refl
 
-returns : tie.Need-returns Inv-loop μ-loop
+returns : fn.Tie.Need-returns Inv-loop μ-loop
 unfolding decrypt
 returns c =
     let at = c .before .before in
     let z : at .loop .n ≡ 0 = omega arith in
     cc (none-back (unpacked (at .before .before .args .key)) (unpacked (at .loop .s)))
 
-pub decrypt-words-spec : {M : Type 1} → statement M
-decrypt-words-spec =
-    tie.close
-    (tie.spec Inv-loop μ-loop (λ c κs. search needs) loop-holds (λ c. omega arith) (λ c κs. omega arith) (λ c κs. search needs)
-    (λ c. omega arith) loop-again (λ c κs. search needs) returns)
+pub decrypt-words-spec : {M : Type 1} → fn.Statement.statement M
+decrypt-words-spec = fn.Tie.close (fn.Tie.spec Inv-loop μ-loop (λ c κs. search needs) (λ c. (omega arith, c .rotate-all .ensures, refl))
+    (λ c. omega arith) (λ c κs. omega arith) (λ c κs. search needs) (λ c. omega arith) loop-again (λ c κs. search needs) returns)

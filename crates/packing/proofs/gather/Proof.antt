@@ -1,12 +1,10 @@
 -- `gather` meets its contract: one test of where each bit comes from. Assumes nothing.
-use borrow.Author.Needs.{needs}
-use mathlib.Core.List.{[], _∷_}
+use Rattle.prelude.proofs.{[], _∷_, needs}
 use Rattle.bits.proofs.XorOfBits.{xored, shl, swapped}
 use Rattle.packing.proofs.Bytes.{four-bytes, bytes-made, gathers}
-use Rattle.packing.proofs.gather.Statement.{statement}
-use Rattle.packing.proofs.gather.Tie as tie
+use Rattle.packing.proofs.gather as fn
 
-returns : tie.Need-returns
+returns : fn.Tie.Need-returns
 returns c =
     let x = c .before .args in
     let f = c .before .fits in
@@ -14,5 +12,5 @@ returns c =
     let w = bytes-made (x .a ∷ x .b ∷ x .c ∷ x .d ∷ []) small in
     gathers (swapped _ _ (xored (xored (xored (w 0) (shl (w 1) 8)) (shl (w 2) 16)) (shl (w 3) 24)) (c .swapmove .ensures)) small tt
 
-pub gather-spec : {M : Type 1} → statement M
-gather-spec = tie.close (tie.spec (λ c κs. search needs) returns)
+pub gather-spec : {M : Type 1} → fn.Statement.statement M
+gather-spec = fn.Tie.close (fn.Tie.spec (λ c κs. search needs) returns)

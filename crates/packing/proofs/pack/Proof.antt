@@ -1,13 +1,11 @@
 -- `pack` meets its contract: its words hold the block's bytes, and the transposition sets each bit right. Assumes nothing.
-use borrow.Author.Needs.{needs}
-use mathlib.Core.Path.{refl, _∙_}
-use Rattle.blocks.specs.Put.{tab}
+use Rattle.prelude.proofs.{refl, _∙_, needs}
+use Rattle.blocks.specs.Bytes.{tab}
 use Rattle.blocks.proofs.ByBytes.{tab-known}
 use Rattle.packing.proofs.Bytes.{interleave, interleaved}
-use Rattle.packing.proofs.pack.Statement.{statement}
-use Rattle.packing.proofs.pack.Tie as tie
+use Rattle.packing.proofs.pack as fn
 
-returns : tie.Need-returns
+returns : fn.Tie.Need-returns
 unfolding tab
 returns c =
     let c₄ = c .before in
@@ -20,11 +18,8 @@ returns c =
     ∙ (λ i. interleave (c₁ .gather .ensures i) (c₂ .gather2 .ensures i) (c₃ .gather3 .ensures i) (c₄ .gather4 .ensures i))
     ∙ tab-known {n = 16} _ (start .args .t1) (search needs) (λ k h. refl)
 
-pub pack-spec : {M : Type 1} → statement M
-pack-spec =
-    tie.close
-    (tie.spec (λ c. search needs) (λ c. search needs) (λ c. search needs) (λ c. search needs) (λ c κs. search needs)
-    (λ c. search needs) (λ c. search needs) (λ c. search needs) (λ c. search needs) (λ c κs. search needs)
-    (λ c. search needs) (λ c. search needs) (λ c. search needs) (λ c. search needs) (λ c κs. search needs)
-    (λ c. search needs) (λ c. search needs) (λ c. search needs) (λ c. search needs) (λ c κs. search needs)
-    (λ c κs. search needs) returns)
+pub pack-spec : {M : Type 1} → fn.Statement.statement M
+pack-spec = fn.Tie.close (fn.Tie.spec (λ c. search needs) (λ c. search needs) (λ c. search needs) (λ c. search needs) (λ c κs. search needs)
+    (λ c. search needs) (λ c. search needs) (λ c. search needs) (λ c. search needs) (λ c κs. search needs) (λ c. search needs)
+    (λ c. search needs) (λ c. search needs) (λ c. search needs) (λ c κs. search needs) (λ c. search needs) (λ c. search needs)
+    (λ c. search needs) (λ c. search needs) (λ c κs. search needs) (λ c κs. search needs) returns)

@@ -1,16 +1,11 @@
 -- `scatter` meets its contract: one test of where each bit comes from. Assumes nothing.
-use borrow.Author.Needs.{needs}
-use mathlib.Core.Path.{_∙_}
-use mathlib.Core.List.{[], _∷_}
-use Prim.Native.Nat.{_+_}
-use native.Mathlib.Omega.{arith}
+use Rattle.prelude.proofs.{_∙_, [], _∷_, _+_, arith, needs}
 use Rattle.bits.proofs.XorOfBits.{alone, swapped, moved}
 use Rattle.packing.specs.Bytes.{reversed, scattered}
 use Rattle.packing.proofs.Bytes.{byte-at}
-use Rattle.packing.proofs.scatter.Statement.{statement}
-use Rattle.packing.proofs.scatter.Tie as tie
+use Rattle.packing.proofs.scatter as fn
 
-returns : tie.Need-returns
+returns : fn.Tie.Need-returns
 unfolding scattered
 returns c =
     let c₃ = c .before in
@@ -25,8 +20,6 @@ returns c =
     ∷ (c .byte4 .ensures ∙ byte-at _ 0 _ (λ j h. flips (0 + j) (omega arith))) i
     ∷ []
 
-pub scatter-spec : {M : Type 1} → statement M
-scatter-spec =
-    tie.close
-    (tie.spec (λ c κs. search needs) (λ c κs. search needs) (λ c κs. search needs) (λ c κs. search needs)
+pub scatter-spec : {M : Type 1} → fn.Statement.statement M
+scatter-spec = fn.Tie.close (fn.Tie.spec (λ c κs. search needs) (λ c κs. search needs) (λ c κs. search needs) (λ c κs. search needs)
     (λ c κs. search needs) returns)

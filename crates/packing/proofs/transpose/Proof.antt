@@ -1,11 +1,10 @@
 -- `transpose` meets its contract: a test for each word of where its bits come from. Assumes nothing.
-use borrow.Author.Needs.{needs}
+use Rattle.prelude.proofs.{needs}
 use Rattle.bits.proofs.XorOfBits.{xored, masked, shl, shr}
 use Rattle.words.proofs.Moves.{inputs, rearranges}
-use Rattle.packing.proofs.transpose.Statement.{statement}
-use Rattle.packing.proofs.transpose.Tie as tie
+use Rattle.packing.proofs.transpose as fn
 
-returns : tie.Need-returns
+returns : fn.Tie.Need-returns
 returns c =
     let w = inputs (c .args .t1) (λ j. search needs) in
     let t = masked (xored (shr (w 0) 4) (w 1)) _ in
@@ -18,8 +17,6 @@ returns c =
     let y = masked (xored (shr x₁ 2) x₃) _ in
     rearranges _ (xored x₀ (shl v 2)) (xored x₁ (shl y 2)) (xored x₂ v) (xored x₃ y) tt tt tt tt tt
 
-pub transpose-spec : {M : Type 1} → statement M
-transpose-spec =
-    tie.close
-    (tie.spec (λ c. search needs) (λ c. search needs) (λ c. search needs) (λ c. search needs) (λ c. search needs)
-    (λ c. search needs) (λ c. search needs) (λ c. search needs) returns)
+pub transpose-spec : {M : Type 1} → fn.Statement.statement M
+transpose-spec = fn.Tie.close (fn.Tie.spec (λ c. search needs) (λ c. search needs) (λ c. search needs) (λ c. search needs)
+    (λ c. search needs) (λ c. search needs) (λ c. search needs) (λ c. search needs) returns)

@@ -1,14 +1,12 @@
 -- `unpack` meets its contract: it takes the way of `pack` back. Assumes nothing.
-use borrow.Author.Needs.{needs}
-use mathlib.Core.Path.{sym, ap, _∙_}
+use Rattle.prelude.proofs.{sym, ap, _∙_, needs}
 use Rattle.blocks.specs.Bits.{rearranged}
 use Rattle.packing.specs.Bytes.{reversed}
 use Rattle.words.proofs.Words.{unpacked-block}
 use Rattle.packing.proofs.Bytes.{interleave, interleaved, reversed-twice}
-use Rattle.packing.proofs.unpack.Statement.{statement}
-use Rattle.packing.proofs.unpack.Tie as tie
+use Rattle.packing.proofs.unpack as fn
 
-returns : tie.Need-returns
+returns : fn.Tie.Need-returns
 returns c =
     let c₃ = c .before in
     let c₂ = c₃ .before in
@@ -18,11 +16,9 @@ returns c =
     ∙ ap (rearranged (reversed 5)) (c₁ .before .transpose .ensures)
     ∙ reversed-twice _ (unpacked-block _)
 
-pub unpack-spec : {M : Type 1} → statement M
-unpack-spec =
-    tie.close
-    (tie.spec (λ c κs. search needs) (λ c. search needs) (λ c κs. search needs) (λ c. search needs) (λ c κs. search needs)
-    (λ c. search needs) (λ c κs. search needs) (λ c. search needs) (λ c κs. search needs) (λ c. search needs)
-    (λ c. search needs) (λ c. search needs) (λ c. search needs) (λ c. search needs) (λ c. search needs)
-    (λ c. search needs) (λ c. search needs) (λ c. search needs) (λ c. search needs) (λ c. search needs)
-    (λ c. search needs) (λ c. search needs) (λ c. search needs) (λ c. search needs) (λ c. search needs) returns)
+pub unpack-spec : {M : Type 1} → fn.Statement.statement M
+unpack-spec = fn.Tie.close (fn.Tie.spec (λ c κs. search needs) (λ c. search needs) (λ c κs. search needs) (λ c. search needs)
+    (λ c κs. search needs) (λ c. search needs) (λ c κs. search needs) (λ c. search needs) (λ c κs. search needs) (λ c. search needs)
+    (λ c. search needs) (λ c. search needs) (λ c. search needs) (λ c. search needs) (λ c. search needs) (λ c. search needs)
+    (λ c. search needs) (λ c. search needs) (λ c. search needs) (λ c. search needs) (λ c. search needs) (λ c. search needs)
+    (λ c. search needs) (λ c. search needs) (λ c. search needs) returns)

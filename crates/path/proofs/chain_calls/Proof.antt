@@ -1,34 +1,25 @@
 -- `chain_calls` meets its contract. The loop stands behind the subkeys' call and CMAC's first j, its output is the chain.
 -- Assumes nothing.
-use mathlib.Core.Path.{_≡_, ap, _∙_}
-use Prim.Native.Nat.{ℕ, _+_, _-_, _*_, _≤_, _<_}
-use native.Mathlib.Omega.{arith}
-use lib.ListN.{length}
-use borrow.Author.Needs.{needs}
-use Rattle.modes.specs.Pieces.{blockCount}
-use Rattle.masking.specs.Shares.{add}
-use Rattle.masking.specs.Tape.{at}
-use Rattle.masking.specs.Call.{encryption}
+use Rattle.prelude.proofs.{_≡_, ap, _∙_, ℕ, _+_, _-_, _*_, _≤_, _<_, arith, length, needs}
+use Rattle.blocks.specs.Bytes.{blockCount}
+use Rattle.masking.specs.{Shares.add, Shares.at, Call.encryption}
 use Rattle.shares.specs.Packed.{sharesOf}
-use Rattle.runs.specs.Run.{outputOf}
-use Rattle.runs.specs.Walk.{Walked}
+use Rattle.runs.specs.{Run.outputOf, Walk.Walked}
 use Rattle.runs.proofs.Walking.{walked-at}
-use Rattle.calls.specs.Numbered.{mac}
-use Rattle.calls.specs.Sealed.{sealingCalls, chain}
+use Rattle.calls.specs.{Numbered.mac, Sealed.sealingCalls, Sealed.chain}
 use Rattle.calls.proofs.Numbered.{call-mac}
 use Rattle.path.proofs.Walking.{walked-ready, call-more, block-held, chain-none, chain-in, chain-more}
-use Rattle.path.proofs.chain_calls.Statement.{statement}
-use Rattle.path.proofs.chain_calls.Tie as tie
+use Rattle.path.proofs.chain_calls as fn
 
-abbrev Inv-loop : tie.InvT-loop
+abbrev Inv-loop : fn.Tie.InvT-loop
 Inv-loop link message tape key watch outs count w₀ j₀ w j =
     (j ≤ count) × Walked (sealingCalls link message) (at tape) watch (count + 1 + j) w
     × (sharesOf (w .out) ≡ chain link message (outputOf encryption (sealingCalls link message) (at tape)) j)
 
-abbrev μ-loop : tie.MeasureT-loop
+abbrev μ-loop : fn.Tie.MeasureT-loop
 μ-loop link message tape key watch outs count w₀ j₀ w j = count - j
 
-loop-holds : tie.Need-loop-holds Inv-loop μ-loop
+loop-holds : fn.Tie.Need-loop-holds Inv-loop μ-loop
 loop-holds c =
     let s = c .before .before .before .before .before in
     let W = s .pre .1 .1 .0 in
@@ -36,16 +27,16 @@ loop-holds c =
     let e : n + 1 ≡ n + 1 + 0 = omega arith in
     (omega arith, walked-at _ _ _ e (record { calls = W .calls; used = W .used; saw = W .saw }), chain-none _ _ _ (c .only .ensures))
 
-before-end : (c : tie.In-loop Inv-loop μ-loop)
+before-end : (c : fn.Tie.In-loop Inv-loop μ-loop)
     → c .before .loop .j < blockCount (length (c .before .before .before .before .before .before .before .args .message .now))
 before-end c = omega arith
 
-mac-block-requires : tie.Need-mac-block-requires Inv-loop μ-loop
+mac-block-requires : fn.Tie.Need-mac-block-requires Inv-loop μ-loop
 mac-block-requires c κs =
     let s = c .before .before .before .before .before .before .before .before in
     ((s .pre .0 .left, omega (arith, before-end (c .before))), (s .pre .0 .short, s .pre .1 .1 .1 .size))
 
-step-requires : tie.Need-step-requires Inv-loop μ-loop
+step-requires : fn.Tie.Need-step-requires Inv-loop μ-loop
 step-requires c κs =
     let l = c .before .before .before .before in
     let s = l .before .before .before .before .before .before in
@@ -53,7 +44,7 @@ step-requires c κs =
     walked-ready (s .args .link) (s .args .message .now) (s .args .tape .now) (s .args .watch) (n + 1 + l .loop .j) (l .loop .w)
     (s .pre .0) (l .loop .inv .1) (omega (arith, before-end (c .before .before .before)))
 
-loop-again : tie.Need-loop-again Inv-loop μ-loop
+loop-again : fn.Tie.Need-loop-again Inv-loop μ-loop
 loop-again c =
     let l = c .before .before .before .before .before in
     let s = l .before .before .before .before .before .before in
@@ -71,7 +62,7 @@ loop-again c =
     let e : n + 2 + j ≡ n + 1 + (j + 1) = omega arith in
     (omega (arith, more), walked-at _ _ _ e (went .0), went .1 ∙ chain-more x m M j)
 
-returns : tie.Need-returns Inv-loop μ-loop
+returns : fn.Tie.Need-returns Inv-loop μ-loop
 returns c =
     let l = c .before in
     let a = l .before .before .before .before .before .before .args in
@@ -83,8 +74,6 @@ returns c =
       chained = l .loop .inv .2 ∙ ap (chain (a .link) (a .message .now) _) d;
     }
 
-pub chain-calls-spec : {M : Type 1} → statement M
-chain-calls-spec =
-    tie.close
-    (tie.spec Inv-loop μ-loop (λ c. search needs) (λ c κs. search needs) loop-holds mac-block-requires (λ c κs. search needs) step-requires
-    (λ c. omega arith) (λ c. omega arith) loop-again returns)
+pub chain-calls-spec : {M : Type 1} → fn.Statement.statement M
+chain-calls-spec = fn.Tie.close (fn.Tie.spec Inv-loop μ-loop (λ c. search needs) (λ c κs. search needs) loop-holds mac-block-requires
+    (λ c κs. search needs) step-requires (λ c. omega arith) (λ c. omega arith) loop-again returns)

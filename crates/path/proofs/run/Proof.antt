@@ -1,56 +1,47 @@
 -- `run` meets its contract: the masked keys, CTR's calls, the subkeys' call, the chain, and the last call. Assumes nothing.
-use mathlib.Core.Path.{_≡_, refl, sym, ap, _∙_}
-use Prim.Native.Nat.{ℕ, _+_, _*_, _-_}
-use native.Mathlib.Omega.{arith}
-use lib.ListN.{length}
-use borrow.Author.Needs.{needs}
-use Rattle.modes.specs.Pieces.{blockCount}
-use Rattle.masking.specs.Shares.{add, sharesIn}
-use Rattle.masking.specs.Tape.{at, pairSize, masksAt}
+use Rattle.prelude.proofs.{_≡_, refl, sym, ap, _∙_, ℕ, _+_, _*_, _-_, arith, length, needs}
+use Rattle.blocks.specs.Bytes.{blockCount}
+use Rattle.masking.specs.Shares.{add, sharesIn, at, pairSize, masksAt}
 use Rattle.masking.specs.Call.{encryption}
 use Rattle.shares.specs.Packed.{sharesOf}
-use Rattle.runs.specs.Run.{outputOf}
-use Rattle.runs.specs.Walk.{Walked}
+use Rattle.runs.specs.{Run.outputOf, Walk.Walked}
 use Rattle.runs.proofs.Walking.{walked-none, walked-at}
-use Rattle.calls.specs.Numbered.{sub, mac, callNumber, callCount}
-use Rattle.calls.specs.Sealed.{sealingCalls}
+use Rattle.calls.specs.{Numbered.sub, Numbered.mac, Numbered.callCount, Sealed.sealingCalls}
 use Rattle.calls.proofs.Numbered.{call-sub, call-mac}
-use Rattle.path.specs.Path.{OutsHold}
 use Rattle.path.proofs.Walking.{walked-ready, call-more, sub-in, block-held, subkey-made, last-in}
-use Rattle.path.proofs.run.Statement.{statement}
-use Rattle.path.proofs.run.Tie as tie
+use Rattle.path.proofs.run as fn
 
 -- ---- from behind CMAC's chain, the subkeys' call, CTR's calls and the keys' masks, each to the one before, and to the start
 
-abbrev zero : tie.After-chain-calls → tie.After-step
+abbrev zero : fn.Tie.After-chain-calls → fn.Tie.After-step
 zero d = d .before .before .before .before
 
-abbrev crypted : tie.After-step → tie.After-ctr-calls
+abbrev crypted : fn.Tie.After-step → fn.Tie.After-ctr-calls
 crypted z = z .before .before .before
 
-abbrev keyed : tie.After-ctr-calls → tie.After-mask-key2
+abbrev keyed : fn.Tie.After-ctr-calls → fn.Tie.After-mask-key2
 keyed o = o .before .before .before .before .before
 
-abbrev start : tie.After-mask-key2 → tie.Start
+abbrev start : fn.Tie.After-mask-key2 → fn.Tie.Start
 start k = k .before .before .before .before .before .before .before
 
 -- ---- call by call
 
-ctr-calls-requires : tie.Need-ctr-calls-requires
+ctr-calls-requires : fn.Tie.Need-ctr-calls-requires
 ctr-calls-requires c κs =
     let k = c .before .before .before .before in
     let used : k .mask-key2 .result .used ≡ 2 * pairSize = omega (arith, k .mask-key2 .ensures .1, k .before .mask-key .ensures .1) in
     (start k .pre .0, (k .before .mask-key .ensures .0, (walked-none _ _ _ refl (omega (arith, used)), start k .pre .1)))
 
 -- CMAC's key is masked with the second pair
-masked : (k : tie.After-mask-key2) → let a = start k .args in
+masked : (k : fn.Tie.After-mask-key2) → let a = start k .args in
     sharesOf (k .mask-key2 .result .key) ≡ add (sharesIn (a .link .km)) (masksAt (at (a .tape .now)) pairSize)
 masked k =
     let a = start k .args in
     k .mask-key2 .ensures .0 ∙ ap (λ (p : ℕ). add (sharesIn (a .link .km)) (masksAt (at (a .tape .now)) p))
     (k .before .mask-key .ensures .1)
 
-step-requires : tie.Need-step-requires
+step-requires : fn.Tie.Need-step-requires
 step-requires c κs =
     let o = c .before .before in
     let s = start (keyed o) in
@@ -58,7 +49,7 @@ step-requires c κs =
     (o .ctr-calls .ensures .walked) (omega arith)
 
 -- behind the subkeys' call
-zeroed : (z : tie.After-step) → let a = start (keyed (crypted z)) .args in
+zeroed : (z : fn.Tie.After-step) → let a = start (keyed (crypted z)) .args in
     let n = blockCount (length (a .message .now)) in
     let R = sealingCalls (a .link) (a .message .now) in
     Walked R (at (a .tape .now)) (a .watch) (n + 1) (z .step .result)
@@ -73,31 +64,31 @@ zeroed z =
     call-more x m M sub (call-sub n) (a .watch) n refl (masked (keyed o)) (sub-in x m M _ (o .before .before .only .ensures))
     (o .ctr-calls .ensures .walked) (z .step .ensures)
 
-chain-calls-requires : tie.Need-chain-calls-requires
+chain-calls-requires : fn.Tie.Need-chain-calls-requires
 chain-calls-requires c κs =
     let z = c .before .before .before in
     let o = crypted z in
     (start (keyed o) .pre .0, (masked (keyed o), (zeroed z .0, o .ctr-calls .ensures .held)))
 
-mac-block-requires : tie.Need-mac-block-requires
+mac-block-requires : fn.Tie.Need-mac-block-requires
 mac-block-requires c κs =
     let o = crypted (zero (c .before .before)) in
     let s = start (keyed o) in
     ((s .pre .0 .left, omega arith), (s .pre .0 .short, o .ctr-calls .ensures .held .size))
 
-step-requires-2 : tie.Need-step-requires-2
+step-requires-2 : fn.Tie.Need-step-requires-2
 step-requires-2 c κs =
     let d = c .before .before .before .before .before in
     let s = start (keyed (crypted (zero d))) in
     walked-ready (s .args .link) (s .args .message .now) (s .args .tape .now) (s .args .watch) _ _ (s .pre .0)
     (d .chain-calls .ensures .walked) (omega arith)
 
-same-length : tie.Need-same-length
+same-length : fn.Tie.Need-same-length
 same-length c =
     let o = crypted (zero (c .before .before .before .before .before .before)) in
     o .ctr-calls .ensures .held .size ∙ sym (start (keyed o) .pre .1)
 
-returns : tie.Need-returns
+returns : fn.Tie.Need-returns
 returns c =
     let d = c .before .before .before .before .before .before in
     let z = zero d in
@@ -118,9 +109,7 @@ returns c =
     let e : n + 2 + n ≡ callCount n = omega arith in
     record { walked = walked-at _ _ _ e (went .0); tag = went .1 ∙ ap (outputOf encryption (sealingCalls x m) M) e; held = held }
 
-pub run-spec : {M : Type 1} → statement M
-run-spec =
-    tie.close
-    (tie.spec (λ c κs. search needs) (λ c κs. search needs) (λ c κs. search needs) ctr-calls-requires step-requires (λ c κs. search needs)
-    chain-calls-requires (λ c. search needs) mac-block-requires (λ c κs. search needs)
-    (λ c κs. search needs) step-requires-2 same-length returns)
+pub run-spec : {M : Type 1} → fn.Statement.statement M
+run-spec = fn.Tie.close (fn.Tie.spec (λ c κs. search needs) (λ c κs. search needs) (λ c κs. search needs) ctr-calls-requires step-requires
+    (λ c κs. search needs) chain-calls-requires (λ c. search needs) mac-block-requires (λ c κs. search needs) (λ c κs. search needs)
+    step-requires-2 same-length returns)

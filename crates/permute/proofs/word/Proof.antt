@@ -1,19 +1,11 @@
 -- `word` meets its contract: one test of where its bits come from. Assumes nothing.
-use borrow.Author.Needs.{needs}
-use mir.Syntax.{w8}
-use mir.Val.{Fits}
-use mathlib.Core.Path.{_≡_, ap, _∙_}
-use mathlib.Core.List.{List, [], _∷_}
-use Prim.Native.Nat.{ℕ, _+_, _-_, _*_, _/_, _%_, _^_, _<_}
-use native.Mathlib.Omega.{arith}
-use lib.ListN.{getD}
+use Rattle.prelude.proofs.{_≡_, ap, _∙_, List, [], _∷_, ℕ, _+_, _-_, _*_, _/_, _%_, _^_, _<_, arith, getD, w8, Fits, needs}
 use Rattle.bits.specs.Bit.{bit}
 use Rattle.bits.proofs.Test.{four}
 use Rattle.bits.proofs.XorOfBits.{Made, own, down, input, wider, xored, shl, moved}
-use Rattle.permute.proofs.word.Statement.{statement}
-use Rattle.permute.proofs.word.Tie as tie
+use Rattle.permute.proofs.word as fn
 
-returns : tie.Need-returns
+returns : fn.Tie.Need-returns
 returns c =
     let s : List ℕ = c .args .t1 in
     let i = c .args .i in
@@ -30,9 +22,7 @@ returns c =
     (four (λ k. getD ws k 0 ≡ at (i + k * n)) (ap at (omega arith)) (ap at (omega arith)) (ap at (omega arith)) (ap at (omega arith))
     (3 - b / 8) (omega arith))
 
-pub word-spec : {M : Type 1} → statement M
-word-spec =
-    tie.close
-    (tie.spec (λ c. search needs) (λ c. search needs) (λ c. search needs) (λ c. search needs) (λ c. search needs)
-    (λ c. search needs) (λ c. search needs) (λ c. search needs) (λ c. search needs) (λ c. search needs)
-    (λ c. search needs) (λ c. search needs) (λ c. search needs) returns)
+pub word-spec : {M : Type 1} → fn.Statement.statement M
+word-spec = fn.Tie.close (fn.Tie.spec (λ c. search needs) (λ c. search needs) (λ c. search needs) (λ c. search needs) (λ c. search needs)
+    (λ c. search needs) (λ c. search needs) (λ c. search needs) (λ c. search needs) (λ c. search needs) (λ c. search needs)
+    (λ c. search needs) (λ c. search needs) returns)

@@ -1,25 +1,15 @@
 -- `put_record` meets its contract: a record written field by field. Assumes nothing.
-use mathlib.Core.Path.{_≡_, sym, ap, _∙_}
-use mathlib.Core.List.{List}
-use Prim.Native.Nat.{ℕ, _+_, _-_}
-use native.Mathlib.Omega.{arith}
-use lib.ListN.{length, take, getD}
-use lib.Seq.{length-take-le}
-use borrow.Author.Needs.{needs}
-use mir.Val.{Fits}
-use mir.Syntax.{w8}
-use Rattle.blocks.specs.Bytes.{Block}
-use Rattle.blocks.specs.Put.{part, put}
+use Rattle.prelude.proofs.{_≡_, sym, ap, _∙_, List, ℕ, _+_, _-_, arith, length, take, getD, length-take-le, w8, Fits, needs}
+use Rattle.blocks.specs.Bytes.{Block, part, put}
 use Rattle.baksheesh.specs.Baksheesh.{encrypt}
 use Rattle.baksheesh.proofs.Inverse.{encrypt-block}
 use Rattle.links.proofs.Fields.{text-there, record-put}
 use Rattle.plain.specs.Plain.{crypted, macOf, plainRecord}
 use Rattle.plain.proofs.Sealed.{crypted-length}
-use Rattle.plain.proofs.put_record.Statement.{statement}
-use Rattle.plain.proofs.put_record.Tie as tie
+use Rattle.plain.proofs.put_record as fn
 
 -- the ciphertext is as long as the message
-size : (c : tie.Start) → length (crypted (encrypt (c .args .ke)) (c .args .number) (c .args .sequence) (c .args .message .now))
+size : (c : fn.Tie.Start) → length (crypted (encrypt (c .args .ke)) (c .args .number) (c .args .sequence) (c .args .message .now))
     ≡ length (c .args .message .now)
 size c = crypted-length _ (λ b w. encrypt-block (c .args .ke) b block w) _ _ _
   where
@@ -30,19 +20,16 @@ size c = crypted-length _ (λ b w. encrypt-block (c .args .ke) b block w) _ _ _
     }
 
 -- the tag is as long as the form says
-tag-size : (c : tie.After-mac)
+tag-size : (c : fn.Tie.After-mac)
     → let filled = c .before .before .before .before .before in
     let f = filled .before .before .before .before .before .before .before .before .before .args .form in
     length (take (f .tag) (c .mac .result)) ≡ f .tag
 tag-size c = let l : length (c .mac .result) ≡ 16 = search needs in length-take-le _ (c .mac .result) (omega arith)
 
-slice-aggregate-put-bytes : tie.Need-slice-aggregate-put-bytes
-slice-aggregate-put-bytes c = sym (tag-size (c .before))
-
-put-bytes-requires : tie.Need-put-bytes-requires
+put-bytes-requires : fn.Tie.Need-put-bytes-requires
 put-bytes-requires c κs = let l = tag-size (c .before .before) in omega arith
 
-returns : tie.Need-returns
+returns : fn.Tie.Need-returns
 unfolding plainRecord
 returns c =
     let tagged = c .before .before .before .before .before in
@@ -63,9 +50,7 @@ returns c =
     ∙ (λ i. put end (take (a .form .tag) (code i)) (written i))
     ∙ record-put (a .form) (a .number) (a .sequence) text (a .out .now) (omega arith) _ end (omega arith)
 
-pub put-record-spec : {M : Type 1} → statement M
-put-record-spec =
-    tie.close
-    (tie.spec (λ c κs. search needs) (λ c. search needs) (λ c κs. search needs) (λ c κs. search needs) (λ c. search needs)
-    (λ c. search needs) (λ c. search needs) (λ c κs. search needs) (λ c. search needs) slice-aggregate-put-bytes put-bytes-requires
-    (λ c. search needs) returns)
+pub put-record-spec : {M : Type 1} → fn.Statement.statement M
+put-record-spec = fn.Tie.close (fn.Tie.spec (λ c κs. search needs) (λ c. search needs) (λ c κs. search needs) (λ c κs. search needs)
+    (λ c. search needs) (λ c. search needs) (λ c. search needs) (λ c κs. search needs) (λ c. search needs) (λ c. sym (tag-size (c .before)))
+    put-bytes-requires (λ c. search needs) returns)

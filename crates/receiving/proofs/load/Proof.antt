@@ -1,15 +1,12 @@
 -- `load` meets its contract: field by field. Assumes nothing.
-use mathlib.Core.Path.{_∙_}
-use borrow.Author.Needs.{needs}
-use Rattle.opening.specs.declared.Receiver.{Receiver}
+use Rattle.prelude.proofs.{_∙_, needs}
 use Rattle.receiving.proofs.Stored.{receiver-in, no-receiver}
-use Rattle.receiving.proofs.load.Statement.{statement}
-use Rattle.receiving.proofs.load.Tie as tie
+use Rattle.receiving.proofs.load as fn
 
-returns : tie.Need-returns
+returns : fn.Tie.Need-returns
 returns c = c .fresh .ensures ∙ no-receiver (c .before .before .before .args .bytes .now) (c .before .if1 .taken)
 
-returns-2 : tie.Need-returns-2
+returns-2 : fn.Tie.Need-returns-2
 returns-2 c =
     let ke = c .before .key-block in
     let last = c .before .before in
@@ -24,8 +21,6 @@ returns-2 c =
       km = c .key-block2 .ensures i;
     })
 
-pub load-spec : {M : Type 1} → statement M
-load-spec =
-    tie.close
-    (tie.spec (λ c κs. search needs) returns (λ c κs. search needs) (λ c κs. search needs) (λ c κs. search needs) (λ c κs. search needs)
-    (λ c κs. search needs) returns-2)
+pub load-spec : {M : Type 1} → fn.Statement.statement M
+load-spec = fn.Tie.close (fn.Tie.spec (λ c κs. search needs) returns (λ c κs. search needs) (λ c κs. search needs) (λ c κs. search needs)
+    (λ c κs. search needs) (λ c κs. search needs) returns-2)

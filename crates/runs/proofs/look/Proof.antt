@@ -1,10 +1,6 @@
 -- `look` meets its contract, by the two cases. Assumes nothing.
-use borrow.Author.Needs.{needs}
-use Rattle.runs.proofs.look.Statement.{statement}
-use Rattle.runs.proofs.look.Tie as tie
+use Rattle.prelude.proofs.{needs}
+use Rattle.runs.proofs.look as fn
 
-returns : tie.Need-returns
-returns c = rw (c .if1 .taken)
-
-pub look-spec : {M : Type 1} → statement M
-look-spec = tie.close (tie.spec returns (λ c. search needs))
+pub look-spec : {M : Type 1} → fn.Statement.statement M
+look-spec = fn.Tie.close (fn.Tie.spec (λ c. rw (c .if1 .taken)) (λ c. search needs))

@@ -1,13 +1,9 @@
 -- `mask_key` meets its contract: the given shares and the masks read are added. Assumes nothing.
-use mathlib.Core.Path.{ap, _∙_}
-use native.Mathlib.Omega.{arith}
-use borrow.Author.Needs.{needs}
-use Rattle.masking.specs.Shares.{add, spread}
-use Rattle.masking.specs.Tape.{at}
-use Rattle.runs.proofs.mask_key.Statement.{statement}
-use Rattle.runs.proofs.mask_key.Tie as tie
+use Rattle.prelude.proofs.{ap, _∙_, arith, needs}
+use Rattle.masking.specs.Shares.{add, spread, at}
+use Rattle.runs.proofs.mask_key as fn
 
-returns : tie.Need-returns
+returns : fn.Tie.Need-returns
 returns c =
     let v = c .before .before .before .before in
     let u = v .before in
@@ -18,6 +14,6 @@ returns c =
           (arith, u .draw .ensures .1, v .draw2 .ensures .1),
     )
 
-pub mask-key-spec : {M : Type 1} → statement M
-mask-key-spec = tie.close
-    (tie.spec (λ c κs. search needs) (λ c κs. omega (arith, c .draw .ensures .1)) (λ c κs. search needs) (λ c κs. search needs) returns)
+pub mask-key-spec : {M : Type 1} → fn.Statement.statement M
+mask-key-spec = fn.Tie.close (fn.Tie.spec (λ c κs. search needs) (λ c κs. omega (arith, c .draw .ensures .1)) (λ c κs. search needs)
+    (λ c κs. search needs) returns)

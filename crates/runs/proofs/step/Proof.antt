@@ -1,12 +1,9 @@
 -- `step` meets its contract: the call, and what it shows if it is watched. Assumes nothing.
-use mathlib.Core.Path.{refl}
-use Prim.Native.Nat.{_+_}
-use borrow.Author.Needs.{needs}
+use Rattle.prelude.proofs.{refl, _+_, needs}
 use Rattle.runs.proofs.Walking.{look-hit, look-miss}
-use Rattle.runs.proofs.step.Statement.{statement}
-use Rattle.runs.proofs.step.Tie as tie
+use Rattle.runs.proofs.step as fn
 
-returns : tie.Need-returns
+returns : fn.Tie.Need-returns
 returns c =
     let d = c .before .before .before .before .before .before .before in
     let s = d .call .ensures in
@@ -21,5 +18,5 @@ returns c =
       miss = look-miss (a .w .calls + 1) (a .watch .call) (r .state) (r .key) (a .w .seen) (c .look .result) (c .look .ensures);
     }
 
-pub step-spec : {M : Type 1} → statement M
-step-spec = tie.close (tie.spec (λ c κs. search needs) (λ c. search needs) (λ c κs. search needs) returns)
+pub step-spec : {M : Type 1} → fn.Statement.statement M
+step-spec = fn.Tie.close (fn.Tie.spec (λ c κs. search needs) (λ c. search needs) (λ c κs. search needs) returns)

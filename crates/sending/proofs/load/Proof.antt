@@ -1,14 +1,9 @@
 -- `load` meets its contract: field by field. Assumes nothing.
-use mathlib.Core.Path.{_∙_}
-use borrow.Author.Needs.{needs}
+use Rattle.prelude.proofs.{_∙_, needs}
 use Rattle.sending.proofs.Stored.{sender-in, no-sender}
-use Rattle.sending.proofs.load.Statement.{statement}
-use Rattle.sending.proofs.load.Tie as tie
+use Rattle.sending.proofs.load as fn
 
-returns : tie.Need-returns
-returns c = c .fresh .ensures ∙ no-sender (c .before .before .before .args .bytes .now) (c .before .if1 .taken)
-
-returns-2 : tie.Need-returns-2
+returns-2 : fn.Tie.Need-returns-2
 returns-2 c =
     let ke = c .before in
     let last = ke .before in
@@ -23,8 +18,7 @@ returns-2 c =
       km = c .key-blocks2 .ensures i;
     })
 
-pub load-spec : {M : Type 1} → statement M
-load-spec =
-    tie.close
-    (tie.spec (λ c κs. search needs) returns (λ c κs. search needs) (λ c κs. search needs) (λ c κs. search needs) (λ c κs. search needs)
-    (λ c κs. search needs) returns-2)
+pub load-spec : {M : Type 1} → fn.Statement.statement M
+load-spec = fn.Tie.close (fn.Tie.spec (λ c κs. search needs)
+    (λ c. c .fresh .ensures ∙ no-sender (c .before .before .before .args .bytes .now) (c .before .if1 .taken)) (λ c κs. search needs)
+    (λ c κs. search needs) (λ c κs. search needs) (λ c κs. search needs) (λ c κs. search needs) returns-2)

@@ -1,26 +1,21 @@
 -- `run_rounds` meets its contract. The loop has done the rounds up to the one numbered n. Assumes nothing.
-use mathlib.Core.Path.{_≡_, sym, ap, _∙_}
-use Prim.Native.Nat.{ℕ, suc, _+_, _-_, _*_, _≤_}
-use native.Mathlib.Omega.{arith}
-use borrow.Author.Needs.{needs}
+use Rattle.prelude.proofs.{_≡_, sym, ap, _∙_, ℕ, suc, _+_, _-_, _*_, _≤_, arith, needs}
 use Rattle.baksheesh.specs.Baksheesh.{rotated}
-use Rattle.masking.specs.Shares.{each}
-use Rattle.masking.specs.Tape.{at, pairSize}
+use Rattle.masking.specs.Shares.{each, at, pairSize}
 use Rattle.shares.specs.Packed.{sharesOf, onward, met}
 use Rattle.shares.proofs.Onward.{packed-blocks, turned-none, onward-none, met-none, onward-more}
-use Rattle.shares.proofs.run_rounds.Statement.{statement}
-use Rattle.shares.proofs.run_rounds.Tie as tie
+use Rattle.shares.proofs.run_rounds as fn
 
-abbrev Inv-loop : tie.InvT-loop
+abbrev Inv-loop : fn.Tie.InvT-loop
 Inv-loop tape used from to masked₀ state₀ key₀ read₀ n₀ masked state key read n =
     (from ≤ n) × (n ≤ to) × (sharesOf masked ≡ met (at tape) used from (sharesOf state₀) (sharesOf key₀) (n - from))
     × (sharesOf state ≡ onward (at tape) used from (sharesOf state₀) (sharesOf key₀) (n - from))
     × (sharesOf key ≡ each (rotated (n - from)) (sharesOf key₀)) × (read ≡ used + pairSize * (n - from))
 
-abbrev μ-loop : tie.MeasureT-loop
+abbrev μ-loop : fn.Tie.MeasureT-loop
 μ-loop tape used from to masked₀ state₀ key₀ read₀ n₀ masked state key read n = to - n
 
-loop-holds : tie.Need-loop-holds Inv-loop μ-loop
+loop-holds : fn.Tie.Need-loop-holds Inv-loop μ-loop
 loop-holds c =
     let a = c .before .args in
     let z : 0 ≡ a .from - a .from = omega arith in (
@@ -32,7 +27,7 @@ loop-holds c =
       omega arith,
     )
 
-loop-again : tie.Need-loop-again Inv-loop μ-loop
+loop-again : fn.Tie.Need-loop-again Inv-loop μ-loop
 loop-again c =
     let v = c .before .before .before .before .before in
     let u = v .before in
@@ -53,7 +48,7 @@ loop-again c =
       omega (arith, u .draw .ensures .1, v .draw2 .ensures .1, here),
     )
 
-returns : tie.Need-returns Inv-loop μ-loop
+returns : fn.Tie.Need-returns Inv-loop μ-loop
 returns c =
     let a = c .before .before .before .args in
     let l = c .before .loop in
@@ -65,8 +60,6 @@ returns c =
       used = l .inv .5 ∙ ap (λ (n : ℕ). a .used + pairSize * n) e;
     }
 
-pub run-rounds-spec : {M : Type 1} → statement M
-run-rounds-spec =
-    tie.close
-    (tie.spec Inv-loop μ-loop loop-holds (λ c κs. omega arith) (λ c κs. omega (arith, c .draw .ensures .1)) (λ c κs. search needs)
-    (λ c κs. search needs) (λ c κs. omega arith) (λ c. omega arith) (λ c. omega arith) loop-again returns)
+pub run-rounds-spec : {M : Type 1} → fn.Statement.statement M
+run-rounds-spec = fn.Tie.close (fn.Tie.spec Inv-loop μ-loop loop-holds (λ c κs. omega arith) (λ c κs. omega (arith, c .draw .ensures .1))
+    (λ c κs. search needs) (λ c κs. search needs) (λ c κs. omega arith) (λ c. omega arith) (λ c. omega arith) loop-again returns)

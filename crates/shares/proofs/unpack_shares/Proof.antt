@@ -1,15 +1,11 @@
 -- `unpack_shares` meets its contract: three blocks written one behind the other. Assumes nothing.
-use mathlib.Core.Path.{sym, _∙_}
-use native.Mathlib.Omega.{arith}
-use lib.ListN.{replicate}
-use borrow.Author.Needs.{needs}
-use Rattle.blocks.specs.Put.{put}
+use Rattle.prelude.proofs.{sym, _∙_, arith, replicate, needs}
+use Rattle.blocks.specs.Bytes.{put}
 use Rattle.blocks.proofs.Parts.{put-three}
 use Rattle.words.proofs.Words.{unpacked-block}
-use Rattle.shares.proofs.unpack_shares.Statement.{statement}
-use Rattle.shares.proofs.unpack_shares.Tie as tie
+use Rattle.shares.proofs.unpack_shares as fn
 
-returns : tie.Need-returns
+returns : fn.Tie.Need-returns
 returns c =
     let third = c .before in
     let second = third .before .before .before .before .before in
@@ -23,9 +19,7 @@ returns c =
     third .put-bytes3 .ensures ∙ (λ i. put 32 (third .before .before .before .unpack3 .ensures i) (two i))
     ∙ put-three _ _ _ _ 16 32 (sym a) (omega arith) (omega arith)
 
-pub unpack-shares-spec : {M : Type 1} → statement M
-unpack-shares-spec =
-    tie.close
-    (tie.spec (λ c κs. search needs) (λ c. search needs) (λ c. search needs) (λ c κs. search needs) (λ c κs. search needs)
-    (λ c. search needs) (λ c. search needs) (λ c κs. search needs) (λ c κs. search needs) (λ c. search needs)
+pub unpack-shares-spec : {M : Type 1} → fn.Statement.statement M
+unpack-shares-spec = fn.Tie.close (fn.Tie.spec (λ c κs. search needs) (λ c. search needs) (λ c. search needs) (λ c κs. search needs)
+    (λ c κs. search needs) (λ c. search needs) (λ c. search needs) (λ c κs. search needs) (λ c κs. search needs) (λ c. search needs)
     (λ c. search needs) (λ c κs. search needs) returns)

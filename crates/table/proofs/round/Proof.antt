@@ -1,12 +1,7 @@
 -- `round` meets its contract, by its steps' contracts. Assumes nothing.
-use borrow.Author.Needs.{needs}
-use Rattle.table.proofs.round.Statement.{statement}
-use Rattle.table.proofs.round.Tie as tie
+use Rattle.prelude.proofs.{needs}
+use Rattle.table.proofs.round as fn
 
-returns : tie.Need-returns
-returns c = cc
-
-pub round-spec : {M : Type 1} → statement M
-round-spec =
-    tie.close
-    (tie.spec (λ c κs. search needs) (λ c κs. search needs) (λ c κs. search needs) (λ c κs. search needs) (λ c κs. search needs) returns)
+pub round-spec : {M : Type 1} → fn.Statement.statement M
+round-spec = fn.Tie.close (fn.Tie.spec (λ c κs. search needs) (λ c κs. search needs) (λ c κs. search needs) (λ c κs. search needs)
+    (λ c κs. search needs) (λ c. cc))

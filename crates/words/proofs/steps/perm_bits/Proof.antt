@@ -1,11 +1,10 @@
 -- `perm_bits` meets its contract: a test for each word of where its bits come from. Assumes nothing.
-use borrow.Author.Needs.{needs}
+use Rattle.prelude.proofs.{needs}
 use Rattle.bits.proofs.XorOfBits.{xored, shl, shr, through}
 use Rattle.words.proofs.Moves.{inputs, rearranges}
-use Rattle.words.proofs.steps.perm_bits.Statement.{statement}
-use Rattle.words.proofs.steps.perm_bits.Tie as tie
+use Rattle.words.proofs.steps.perm_bits as fn
 
-returns : tie.Need-returns
+returns : fn.Tie.Need-returns
 returns c =
     let c₃ = c .before in
     let c₂ = c₃ .before in
@@ -17,8 +16,6 @@ returns c =
     rearranges _ (xored (shl x 8) (shr x 24)) (xored (shl y 16) (shr y 16)) (xored (shl z 24) (shr z 8))
     (through (w 3) (c .perm-word4 .ok) _ (c .perm-word4 .ensures) tt) tt tt tt tt tt
 
-pub perm-bits-spec : {M : Type 1} → statement M
-perm-bits-spec =
-    tie.close
-    (tie.spec (λ c. search needs) (λ c κs. search needs) (λ c. search needs) (λ c κs. search needs) (λ c. search needs)
-    (λ c κs. search needs) (λ c. search needs) (λ c κs. search needs) returns)
+pub perm-bits-spec : {M : Type 1} → fn.Statement.statement M
+perm-bits-spec = fn.Tie.close (fn.Tie.spec (λ c. search needs) (λ c κs. search needs) (λ c. search needs) (λ c κs. search needs)
+    (λ c. search needs) (λ c κs. search needs) (λ c. search needs) (λ c κs. search needs) returns)

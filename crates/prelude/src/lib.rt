@@ -1,0 +1,1 @@
+// The library's names for proofs: proofs/Lib.antt.

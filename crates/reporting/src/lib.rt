@@ -1,0 +1,108 @@
+// The lane report: a lane of the sealing that a link would do next.
+use links::GREATEST;
+use links::LONGEST;
+use links::Sender;
+use outgoing::lane_of;
+use path::run;
+use path::tape_need;
+use runs::Watch;
+use shares::PAIRS;
+ghost use mathlib.Core.Path.{_≡_};
+ghost use Prim.Native.Nat.{_≤_};
+ghost use lib.ListN.{length};
+ghost use Rattle.answers.specs.Answer.{numberOf};
+ghost use Rattle.links.specs.Record.{longest};
+ghost use Rattle.calls.specs.Entry.{reportAnswer, hasLane, reportOutput};
+ghost use Rattle.reporting.specs.Says.{reportSays};
+
+pub enum ReportAnswer {
+    Shown,
+    NotKeyed,
+    NumbersUsed,
+    LongMessage,
+    ShortTape,
+    BadLane,
+    ShortOutput,
+}
+
+impl ReportAnswer {
+    // 0, or the refusal's number.
+    pub fn number(self) -> u32
+        ensures { λ r. ⌜ r ≡ numberOf (reportSays self) ⌝ }
+    {
+        match self {
+            ReportAnswer::Shown => 0,
+            ReportAnswer::NotKeyed => 20,
+            ReportAnswer::NumbersUsed => 21,
+            ReportAnswer::LongMessage => 2,
+            ReportAnswer::ShortTape => 3,
+            ReportAnswer::BadLane => 6,
+            ReportAnswer::ShortOutput => 4,
+        }
+    }
+}
+
+// Whether a sealing of a message of n bytes has that lane: calls and rounds are numbered from 1, lanes from 0.
+fn has_lane(n: usize, call: u32, round: u32, lane: u32) -> bool
+    requires { ⌜ n ≤ longest ⌝ }
+    ensures { λ r. ⌜ r ≡ hasLane n call round lane ⌝ }
+{
+    if call == 0 {
+        return false;
+    }
+    if 2 * ((n + 15) / 16) + 2 < call as usize {
+        return false;
+    }
+    if round == 0 {
+        return false;
+    }
+    if PAIRS < round as usize {
+        return false;
+    }
+    lane < 3
+}
+
+// Writes a lane of the sealing that the link would do next.
+pub fn report(
+    link: Sender,
+    message: &[u8],
+    tape: &[u8],
+    call: u32,
+    round: u32,
+    lane: u32,
+    out: &mut [u8],
+) -> ReportAnswer
+    ensures { λ r. ⌜ reportSays r
+        ≡ reportAnswer link (now (message .entry)) (now (tape .entry)) call round lane (length (now (out .entry))) ⌝ }
+    ensures { λ r. ⌜ now (out .exit)
+        ≡ reportOutput link (now (message .entry)) (now (tape .entry)) call round lane (now (out .entry)) ⌝ }
+{
+    if !link.keyed {
+        return ReportAnswer::NotKeyed;
+    }
+    if link.last == GREATEST {
+        return ReportAnswer::NumbersUsed;
+    }
+    let n = message.len();
+    if LONGEST < n {
+        return ReportAnswer::LongMessage;
+    }
+    if tape.len() < tape_need(n) {
+        return ReportAnswer::ShortTape;
+    }
+    if !has_lane(n, call, round, lane) {
+        return ReportAnswer::BadLane;
+    }
+    if out.len() < 48 {
+        return ReportAnswer::ShortOutput;
+    }
+    let mut outs = [0u8; 768];
+    let watch = Watch {
+        call: call as usize,
+        stage: round as usize,
+    };
+    let w = run(link, message, tape, watch, &mut outs);
+    let seen = w.seen;
+    blocks::put_bytes(&lane_of(seen, lane), out, 0);
+    ReportAnswer::Shown
+}
