@@ -1,7 +1,7 @@
 /*
  * The calls of librasppuce.a and those of baseline.c give the same on random inputs: the same answer,
  * and the same bytes in everything that was lent, past the result too. Some inputs are to be refused.
- * Shared sealing also has to give C's plain record.
+ * Shared sealing also has to give C's plain record, and a written body its values when it is read.
  */
 #include "baseline.h"
 #include "bench.h"
@@ -15,9 +15,12 @@ enum {
     BLOCKS = 100000,       /* random inputs of each block call */
     PLAIN_RECORDS = 20000, /* of plain sealing, and of opening */
     SHARED_RECORDS = 2000, /* of shared sealing */
+    BODIES = 200000,       /* of reading a body, and of writing one */
     KEYS = RASPPUCE_RECEIVER_KEY_BYTES,
     MESSAGE = RASPPUCE_MESSAGE_MOST + 1,
-    RECORD = RASPPUCE_RECORD_MOST + 2
+    RECORD = RASPPUCE_RECORD_MOST + 2,
+    BODY = RASPPUCE_BODY_MOST + 4,
+    VALUES = RASPPUCE_VALUES_BYTES + 1
 };
 
 /* ---- random choices */
@@ -178,6 +181,92 @@ static int shared_sealings_agree(void)
     return 1;
 }
 
+/* ---- bodies */
+
+static void put_big_endian(uint8_t *bytes, int len, uint64_t x)
+{
+    for (int i = 0; i < len; i++)
+        bytes[i] = (uint8_t)(x >> 8 * (len - 1 - i));
+}
+
+/* An offset; at times one at a limit, or just outside. */
+static int32_t random_offset(void)
+{
+    enum { LEAST = RASPPUCE_OFFSET_LEAST, MOST = RASPPUCE_OFFSET_MOST };
+    switch (random_below(8)) {
+    case 0:  return LEAST - 2 + (int32_t)random_below(4);
+    case 1:  return MOST - 1 + (int32_t)random_below(4);
+    default: return LEAST + (int32_t)random_below(MOST - LEAST + 1);
+    }
+}
+
+/* A word of a kind with a random field; that of kind 4 mostly is an offset. */
+static uint32_t random_word(uint32_t kind)
+{
+    uint32_t x = kind == 4 && random_below(8) != 0 ? (uint32_t)random_offset() : (uint32_t)random_number();
+    return kind << 28 | (x & (RASPPUCE_FRACTION_END - 1));
+}
+
+/* Words of kinds 1, 2, 3, at times 4, and skipped ones, in any order; once in a while one of any kind. */
+static void random_body(uint8_t *body, size_t count)
+{
+    size_t kinds = 3 + random_below(2);
+    for (size_t i = 0; i < count; i++) {
+        size_t at = random_below(i + 1);
+        uint32_t kind = (uint32_t)(i < kinds ? i + 1 : 5 + random_below(11));
+        if (random_below(16 * count) == 0)
+            kind = (uint32_t)random_below(16);
+        memmove(body + 4 * i, body + 4 * at, 4);
+        put_big_endian(body + 4 * at, 4, random_word(kind));
+    }
+}
+
+static int readings_agree(void)
+{
+    for (int i = 0; i < BODIES; i++) {
+        uint8_t body[BODY] = {0}, a[VALUES], b[VALUES];
+        size_t count = random_below(4) == 0 ? random_below(BODY / 4 + 1) : 3 + random_below(4);
+        size_t length = random_below(16) == 0 ? random_below(4 * count + 1) : 4 * count;
+        size_t room = random_room(RASPPUCE_VALUES_BYTES);
+        random_body(body, count);
+        random_bytes(a, VALUES);
+        memcpy(b, a, VALUES);
+        uint32_t x = rasppuce_read_body(body, length, a, room);
+        uint32_t y = baseline_read_body(body, length, b, room);
+        if (x != y || memcmp(a, b, VALUES) != 0)
+            return differ("read body", i);
+    }
+    return 1;
+}
+
+static int writings_agree(void)
+{
+    for (int i = 0; i < BODIES; i++) {
+        uint8_t a[17], b[17], values[RASPPUCE_VALUES_BYTES] = {0}, read[RASPPUCE_VALUES_BYTES];
+        uint64_t seconds = random_number() >> (random_below(8) == 0 ? 7 : 8 + random_below(56));
+        uint32_t fraction = (uint32_t)random_number() >> (random_below(8) == 0 ? 3 : 4);
+        uint32_t has_offset = (uint32_t)random_below(3);
+        int32_t offset = random_offset();
+        size_t room = random_room(RASPPUCE_BODY_BYTES(has_offset));
+        random_bytes(a, sizeof a);
+        memcpy(b, a, sizeof a);
+        uint32_t x = rasppuce_write_body(seconds, fraction, has_offset, offset, a, room);
+        uint32_t y = baseline_write_body(seconds, fraction, has_offset, offset, b, room);
+        if (x != y || memcmp(a, b, sizeof a) != 0)
+            return differ("write body", i);
+        if (x != RASPPUCE_OK)
+            continue;
+        put_big_endian(values, 8, seconds);
+        put_big_endian(values + 8, 4, fraction);
+        values[12] = has_offset != 0;
+        put_big_endian(values + 13, 4, has_offset ? (uint32_t)offset : 0);
+        if (rasppuce_read_body(a, RASPPUCE_BODY_BYTES(has_offset), read, sizeof read) != RASPPUCE_OK
+            || memcmp(values, read, sizeof read) != 0)
+            return differ("written body, read", i);
+    }
+    return 1;
+}
+
 int all_agree(void)
 {
     if (!c_decrypts()
@@ -185,11 +274,12 @@ int all_agree(void)
         || !blocks_agree("decrypt packed", rasppuce_decrypt_packed, baseline_decrypt_packed)
         || !blocks_agree("encrypt table", rasppuce_encrypt_table, baseline_encrypt_packed)
         || !blocks_agree("decrypt table", rasppuce_decrypt_table, baseline_decrypt_packed)
-        || !plain_sealings_agree() || !openings_agree() || !shared_sealings_agree())
+        || !plain_sealings_agree() || !openings_agree() || !shared_sealings_agree()
+        || !readings_agree() || !writings_agree())
         return 0;
     printf("The archive and C agree on %d random blocks in each block call, on %d\n"
            "records plainly sealed, on %d opened and on %d sealed on shares, of 0 to\n"
-           "256 bytes, refused ones among them.\n\n",
-           BLOCKS, PLAIN_RECORDS, PLAIN_RECORDS, SHARED_RECORDS);
+           "256 bytes, on %d bodies read and %d written, refused ones among them.\n\n",
+           BLOCKS, PLAIN_RECORDS, PLAIN_RECORDS, SHARED_RECORDS, BODIES, BODIES);
     return 1;
 }

@@ -1,5 +1,5 @@
 /*
- * The calls of rasppuce.h in plain C: blocks, plain sealing, opening, shared sealing.
+ * The calls of rasppuce.h in plain C: blocks, plain sealing, opening, shared sealing, bodies.
  */
 #include "baseline.h"
 #include "packed.h"
@@ -355,5 +355,74 @@ uint32_t baseline_seal(uint8_t *link, size_t link_len, const uint8_t *message, s
     unpack(tag.c, shares + 2 * BLOCK);
     put_number(shares + 3 * BLOCK, (uint32_t)(at - tape));
     put_number(link + LINK_LAST, sequence);
+    return RASPPUCE_OK;
+}
+
+/* ---- bodies */
+
+enum { FIELD_BITS = 28, OFFSET_KIND = 4 };
+
+static uint32_t field(uint32_t word)
+{
+    return word & ((1u << FIELD_BITS) - 1);
+}
+
+static uint32_t word_of(uint32_t kind, uint32_t x)
+{
+    return kind << FIELD_BITS | field(x);
+}
+
+/* The minutes of an offset's word, whose field is in two's complement. */
+static int32_t minutes(uint32_t word)
+{
+    int32_t x = (int32_t)field(word);
+    return x < 1 << (FIELD_BITS - 1) ? x : x - (1 << FIELD_BITS);
+}
+
+static int is_offset(int32_t x)
+{
+    return RASPPUCE_OFFSET_LEAST <= x && x <= RASPPUCE_OFFSET_MOST;
+}
+
+uint32_t baseline_read_body(const uint8_t *body, size_t body_len, uint8_t *values, size_t values_len)
+{
+    if (body_len < 4 || body_len > RASPPUCE_BODY_MOST || body_len % 4 != 0)
+        return RASPPUCE_BODY_LENGTH;
+    uint32_t found[OFFSET_KIND + 1] = {0}; /* the word of each kind, or 0: no word of a kind above 0 is 0 */
+    for (size_t i = 0; i < body_len; i += 4) {
+        uint32_t word = number_at(body + i), kind = word >> FIELD_BITS;
+        if (kind > OFFSET_KIND)
+            continue;
+        if (kind == 0 || found[kind] != 0 || (kind == OFFSET_KIND && !is_offset(minutes(word))))
+            return RASPPUCE_BODY_WORD;
+        found[kind] = word;
+    }
+    if (found[1] == 0 || found[2] == 0 || found[3] == 0)
+        return RASPPUCE_BODY_MISSING;
+    if (values_len < RASPPUCE_VALUES_BYTES)
+        return RASPPUCE_OUTPUT;
+    uint64_t seconds = (uint64_t)field(found[1]) << FIELD_BITS | field(found[2]);
+    int has_offset = found[OFFSET_KIND] != 0;
+    put_number(values, (uint32_t)(seconds >> 32));
+    put_number(values + 4, (uint32_t)seconds);
+    put_number(values + 8, field(found[3]));
+    values[12] = (uint8_t)has_offset;
+    put_number(values + 13, has_offset ? (uint32_t)minutes(found[OFFSET_KIND]) : 0);
+    return RASPPUCE_OK;
+}
+
+uint32_t baseline_write_body(uint64_t seconds, uint32_t fraction, uint32_t has_offset, int32_t offset,
+                             uint8_t *body, size_t body_len)
+{
+    if (seconds >= RASPPUCE_SECONDS_END || fraction >= RASPPUCE_FRACTION_END
+        || (has_offset && !is_offset(offset)))
+        return RASPPUCE_BODY_WORD;
+    if (body_len < RASPPUCE_BODY_BYTES(has_offset))
+        return RASPPUCE_OUTPUT;
+    put_number(body, word_of(1, (uint32_t)(seconds >> FIELD_BITS)));
+    put_number(body + 4, word_of(2, (uint32_t)seconds));
+    put_number(body + 8, word_of(3, fraction));
+    if (has_offset)
+        put_number(body + 12, word_of(OFFSET_KIND, (uint32_t)offset));
     return RASPPUCE_OK;
 }

@@ -21,4 +21,8 @@ uint32_t baseline_seal(uint8_t *link, size_t link_len, const uint8_t *message, s
                        const uint8_t *tape, size_t tape_len, uint8_t *record, size_t record_len,
                        uint8_t *shares, size_t shares_len);
 
+uint32_t baseline_read_body(const uint8_t *body, size_t body_len, uint8_t *values, size_t values_len);
+uint32_t baseline_write_body(uint64_t seconds, uint32_t fraction, uint32_t has_offset, int32_t offset,
+                             uint8_t *body, size_t body_len);
+
 #endif

@@ -3,8 +3,9 @@
  *
  * First both have to agree on random inputs (agree.c). Then the proved call and the C call of each row
  * run in turn, in many short runs; the best of each counts. What a call gives goes into the next: a
- * block call's output is the next input, and a sealing's tag gives a byte of the next sequence number
- * or tape. Opening takes the same record again, on the link as it was.
+ * block call's output is the next input, a sealing's tag gives a byte of the next sequence number or
+ * tape, and a body that is read or written one of the next. Opening takes the same record again, on the
+ * link as it was.
  *
  * The second table and the plot (plot.c), whose file is the program's argument, show cost by length.
  *
@@ -159,6 +160,54 @@ static double seal_ns(any_call *call, size_t size, int count)
     return (end - start) / count;
 }
 
+/* A body of `size` bytes: words of kinds 1 to 4, each a quarter behind the one before, the others skipped. */
+static void fill_body(uint8_t *body, size_t size)
+{
+    static const uint8_t offset[] = {0x40, 0, 0, 60};
+    fill(body, size);
+    for (size_t i = 0; i < size; i += 4)
+        body[i] = (uint8_t)((5 + i / 4 % 11) << 4);
+    for (size_t kind = 1; kind < 4; kind++)
+        body[(kind - 1) * size / 4] = (uint8_t)(kind << 4);
+    memcpy(body + 3 * size / 4, offset, 4);
+}
+
+/* Reading a body: the next one has another fraction. */
+static double read_body_ns(any_call *call, size_t size, int count)
+{
+    read_body_call *read = (read_body_call *)call;
+    uint8_t body[RASPPUCE_BODY_MOST], values[RASPPUCE_VALUES_BYTES];
+    fill_body(body, size);
+    uint32_t answers = 0;
+    double start = now_ns();
+    for (int i = 0; i < count; i++) {
+        answers |= read(body, size, values, sizeof values);
+        body[size / 2 + 3] = (uint8_t)(values[11] + 1);
+    }
+    double end = now_ns();
+    accepted(answers);
+    sink = values[11];
+    return (end - start) / count;
+}
+
+/* Writing a body: the next one is of another second. `size` is 16, with an offset. */
+static double write_body_ns(any_call *call, size_t size, int count)
+{
+    write_body_call *write = (write_body_call *)call;
+    uint8_t body[RASPPUCE_BODY_BYTES(1)];
+    uint32_t answers = 0;
+    uint64_t seconds = 1772456709;
+    double start = now_ns();
+    for (int i = 0; i < count; i++) {
+        answers |= write(seconds, RASPPUCE_FRACTION_END / 4, 1, 60, body, size);
+        seconds = 1772456709 + (uint64_t)body[7];
+    }
+    double end = now_ns();
+    accepted(answers);
+    sink = body[7];
+    return (end - start) / count;
+}
+
 /* ---- the rows */
 
 typedef struct {
@@ -179,6 +228,10 @@ typedef struct {
     {name, open_ns, ANY(rasppuce_open), ANY(baseline_open), size, budget, 0, 0}
 #define SHARED_ROW(name, size, budget) \
     {name, seal_ns, ANY(rasppuce_seal), ANY(baseline_seal), size, budget, 0, 0}
+#define READ_ROW(name, size) \
+    {name, read_body_ns, ANY(rasppuce_read_body), ANY(baseline_read_body), size, 0, 0, 0}
+#define WRITE_ROW(name, size) \
+    {name, write_body_ns, ANY(rasppuce_write_body), ANY(baseline_write_body), size, 0, 0, 0}
 
 static row rows[] = {
     BLOCK_ROW("encrypt packed", rasppuce_encrypt_packed, baseline_encrypt_packed, PLAIN_BUDGET),
@@ -191,6 +244,9 @@ static row rows[] = {
     OPEN_ROW("open 256 bytes", 256, PLAIN_BUDGET),
     SHARED_ROW("shared seal of 16 bytes", 16, SHARED_BUDGET),
     SHARED_ROW("shared seal of 256 bytes", 256, SHARED_BUDGET),
+    READ_ROW("read body of 16 bytes", 16),
+    READ_ROW("read body of 256 bytes", 256),
+    WRITE_ROW("write body of 16 bytes", 16),
 };
 
 /* The second table and the plot: what calls cost by the length of the message. */

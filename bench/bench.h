@@ -15,6 +15,9 @@ typedef uint32_t open_call(uint8_t *link, size_t link_len, const uint8_t *record
 typedef uint32_t seal_call(uint8_t *link, size_t link_len, const uint8_t *message, size_t message_len,
                            const uint8_t *tape, size_t tape_len, uint8_t *record, size_t record_len,
                            uint8_t *shares, size_t shares_len);
+typedef uint32_t read_body_call(const uint8_t *body, size_t body_len, uint8_t *values, size_t values_len);
+typedef uint32_t write_body_call(uint64_t seconds, uint32_t fraction, uint32_t has_offset, int32_t offset,
+                                 uint8_t *body, size_t body_len);
 
 /* Whether the archive and C give the same on random inputs; says what was tried, or the first difference. */
 int all_agree(void);

@@ -1,9 +1,10 @@
 /*
  * Measures the stack of each call of librasppuce.a, and which secrets it leaves there.
  *
- * A call is made on a stack of its own, with messages of each length from 0 to 256, and for each length
- * with several sets of random secrets. The stack is filled with random bytes before, in two ways that
- * have no byte in common, so that the lowest byte that the call writes is seen whatever it writes.
+ * A call is made on a stack of its own, with messages of each length from 0 to 256 or bodies of 16 to 256
+ * bytes, and for each length with several sets of random secrets. The stack is filled with random bytes
+ * before, in two ways that have no byte in common, so that the lowest byte that the call writes is seen
+ * whatever it writes.
  * A secret is left where a byte of that stack equals the same byte of it for every set of secrets.
  *
  * Prints a line for each call: its name, how many bytes below its return address it writes, and the
@@ -61,6 +62,10 @@ static void require(int holds, const char *sentence)
 typedef struct {
     uint8_t key_shares[RASPPUCE_SENDER_KEY_BYTES], keys[RASPPUCE_RECEIVER_KEY_BYTES];
     uint8_t message[RASPPUCE_MESSAGE_MOST], tape[RASPPUCE_TAPE_MOST];
+    uint64_t seconds; /* a time mark */
+    uint32_t fraction;
+    int32_t offset;
+    uint8_t body[RASPPUCE_BODY_MOST]; /* its body, with words to skip behind what is written */
 } secrets;
 
 static secrets sets[SETS];
@@ -71,7 +76,23 @@ static void xor_to(uint8_t *out, const uint8_t *a, const uint8_t *b, size_t len)
         out[i] = a[i] ^ b[i];
 }
 
-/* Key shares, the keys that they join to, a message and a tape. */
+enum { WRITTEN = RASPPUCE_BODY_BYTES(1) };
+
+/* A time mark and its body. */
+static void choose_mark(secrets *s)
+{
+    enum { LEAST = RASPPUCE_OFFSET_LEAST, MOST = RASPPUCE_OFFSET_MOST };
+    s->seconds = random_number() % RASPPUCE_SECONDS_END;
+    s->fraction = (uint32_t)(random_number() % RASPPUCE_FRACTION_END);
+    s->offset = LEAST + (int32_t)(random_number() % (MOST - LEAST + 1));
+    random_bytes(s->body, sizeof s->body);
+    for (size_t i = WRITTEN; i < sizeof s->body; i += 4)
+        s->body[i] |= 0x80;
+    require(rasppuce_write_body(s->seconds, s->fraction, 1, s->offset, s->body, sizeof s->body) == RASPPUCE_OK,
+            "Writing a body was refused.");
+}
+
+/* Key shares, the keys that they join to, a message, a tape and a time mark. */
 static void choose(secrets *s)
 {
     random_bytes(s->key_shares, sizeof s->key_shares);
@@ -83,6 +104,7 @@ static void choose(secrets *s)
         xor_to(key, shares, shares + 16, 16);
         xor_to(key, key, shares + 32, 16);
     }
+    choose_mark(s);
 }
 
 /* ---- the bytes that secrets stand in: as they are lent, and in packed words; keys in every rotation */
@@ -151,6 +173,22 @@ static void add_message(int set, const secrets *s)
     }
 }
 
+/*
+ * A time mark, which is a message too: the bytes of its seconds, and those of the words written, with their
+ * kind and without. Only bytes that differ from set to set, since others would be found anywhere: not the
+ * highest of the seconds, which is 0, nor the upper two of the offset, which have only its sign.
+ */
+static void add_mark(int set, const secrets *s)
+{
+    add_forms(set, MESSAGE, s->body, WRITTEN - 4);
+    add_forms(set, MESSAGE, s->body + WRITTEN - 2, 2);
+    for (int i = 0; i < WRITTEN - 4; i += 4) {
+        uint8_t field = s->body[i] & 15;
+        add_forms(set, MESSAGE, &field, 1);
+    }
+    add_forms(set, MESSAGE, &s->seconds, 7);
+}
+
 static void choose_all(void)
 {
     for (int set = 0; set < SETS; set++) {
@@ -162,6 +200,7 @@ static void choose_all(void)
             add_shares(set, s->key_shares + 48 * i, s->tape + 32 * i);
         }
         add_message(set, s);
+        add_mark(set, s);
     }
 }
 
@@ -187,6 +226,7 @@ static uint8_t sender[RASPPUCE_SENDER_BYTES], receiver[RASPPUCE_RECEIVER_BYTES];
 static uint8_t record[RASPPUCE_RECORD_MOST], opened[RASPPUCE_MESSAGE_MOST];
 static uint8_t tag_shares[RASPPUCE_SHARES_BYTES], lane[RASPPUCE_LANE_BYTES];
 static uint8_t plain_block[16], cipher_block[16];
+static uint8_t body[RASPPUCE_BODY_BYTES(1)], values[RASPPUCE_VALUES_BYTES];
 static size_t length; /* of the message */
 
 /* Keyed links, a record to open, and blocks, whatever a call wrote before. */
@@ -260,6 +300,22 @@ static void make_report(void)
     after();
 }
 
+/* By turns: each length from what is written to the longest. */
+static void make_read_body(void)
+{
+    answer = ((read_body_call *)call)(lent->body, WRITTEN + length * 4 % (sizeof lent->body - WRITTEN + 4),
+                                      values, sizeof values);
+    after();
+}
+
+/* By turns: without an offset and with one. */
+static void make_write_body(void)
+{
+    answer = ((write_body_call *)call)(lent->seconds, lent->fraction, length & 1, lent->offset,
+                                       body, sizeof body);
+    after();
+}
+
 static void make_encrypt(void)
 {
     answer = ((block_call *)call)(lent->keys, 16, plain_block, 16, cipher_block, 16);
@@ -286,6 +342,8 @@ static const row rows[] = {
     ROW(rasppuce_open, make_open),
     ROW(rasppuce_seal_plain, make_seal_plain),
     ROW(rasppuce_report, make_report),
+    ROW(rasppuce_read_body, make_read_body),
+    ROW(rasppuce_write_body, make_write_body),
     ROW(rasppuce_encrypt_table, make_encrypt),
     ROW(rasppuce_decrypt_table, make_decrypt),
     ROW(rasppuce_encrypt_packed, make_encrypt),

@@ -1,5 +1,5 @@
 /*
- * The first screen: a time mark is sealed and opened, and three wrong records are refused.
+ * The first screen: a time mark is sealed, opened and read, and three wrong records are refused.
  * The exit status is 1 if anything is not as the text says.
  */
 #include "link.h"
@@ -9,7 +9,7 @@
 #include <string.h>
 
 /* The time mark of a second later, for record 2. */
-#define NEXT_MARK "2026-03-02 14:05:10.250 +01:00"
+static const time_mark next_mark = {1772456710, QUARTER, 60, "2026-03-02 14:05:10.250 +01:00"};
 
 enum { OTHER_LINK = 8 };
 
@@ -17,7 +17,7 @@ enum { OTHER_LINK = 8 };
 enum {
     NUMBER_AT = RASPPUCE_NUMBER_BYTES,
     TEXT_AT = NUMBER_AT + RASPPUCE_SEQUENCE_BYTES,
-    TAG_AT = TEXT_AT + MARK_BYTES
+    TAG_AT = TEXT_AT + BODY_BYTES
 };
 
 /* ---- the cipher */
@@ -74,96 +74,102 @@ static void show_keys(both_ends *ends)
 
 /* ---- sealing */
 
-/* Seals the next time mark by shares, with a new tape; says whether that was done. */
-static int seal_next(both_ends *ends, const char *mark, uint8_t record[RECORD_BYTES])
+/* What our mark's body has to be: 28 bits of a number in each word, behind the word's kind. */
+static const uint8_t our_body[BODY_BYTES] = {0x10, 0x00, 0x00, 0x06, 0x29, 0xa5, 0x8b, 0x05,
+                                             0x34, 0x00, 0x00, 0x00, 0x40, 0x00, 0x00, 0x3c};
+
+/* Writes a mark's body and seals it by shares, with a new tape; says whether both were done. */
+static int seal_next(both_ends *ends, const time_mark *mark, uint8_t body[BODY_BYTES],
+                     uint8_t record[RECORD_BYTES])
 {
     uint8_t tape[TAPE_BYTES], tag_shares[RASPPUCE_SHARES_BYTES];
     fill(tape, sizeof tape);
-    return seal_mark(ends, mark, tape, record, tag_shares) == RASPPUCE_OK;
+    return write_mark(mark, body) == RASPPUCE_OK
+        && seal_body(ends, body, tape, record, tag_shares) == RASPPUCE_OK;
 }
 
-/* Whether a record is number 1 of the link, with the time mark hidden. */
-static int fields_right(const uint8_t record[RECORD_BYTES])
+/* Whether a record is number 1 of the link, with every word of the body hidden. */
+static int fields_right(const uint8_t record[RECORD_BYTES], const uint8_t body[BODY_BYTES])
 {
-    return read_number(record) == LINK && read_number(record + NUMBER_AT) == 1
-        && memcmp(record + TEXT_AT, MARK, MARK_BYTES) != 0;
+    for (int i = 0; i < BODY_BYTES; i += 4)
+        if (memcmp(record + TEXT_AT + i, body + i, 4) == 0)
+            return 0;
+    return read_number(record) == LINK && read_number(record + NUMBER_AT) == 1;
 }
 
-/* The column in which a field is explained. */
+/* The column in which bytes are explained. */
 enum { WHAT_AT = 47 };
 
-/* One field of a record, 16 bytes to a line, and what it is. */
+/* At most 16 bytes in a line, with their name and what they are. */
 static void print_field(const char *name, const uint8_t *bytes, size_t len, const char *what)
 {
     int used = printf("  %-8s", name);
-    used += print_hex(bytes, len < BLOCK ? len : BLOCK);
+    used += print_hex(bytes, len);
     printf("%*s%s\n", WHAT_AT - used, "", what);
-    if (len > BLOCK) {
-        printf("  %-8s", "");
-        print_hex(bytes + BLOCK, len - BLOCK);
-        printf("\n");
-    }
 }
 
-/* The sender seals the time mark, by shares and plainly. */
+/* The sender writes the body of our mark and seals it, by shares and plainly. */
 static void show_sealing(both_ends *ends, uint8_t record[RECORD_BYTES])
 {
-    uint8_t plain[RECORD_BYTES] = {0};
-    int sealed = seal_next(ends, MARK, record)
-              && rasppuce_seal_plain(ends->keys, sizeof ends->keys, LINK, 1,
-                                     (const uint8_t *)MARK, MARK_BYTES,
+    uint8_t body[BODY_BYTES] = {0}, plain[RECORD_BYTES] = {0};
+    int sealed = seal_next(ends, &our_mark, body, record)
+              && rasppuce_seal_plain(ends->keys, sizeof ends->keys, LINK, 1, body, sizeof body,
                                      plain, sizeof plain) == RASPPUCE_OK;
-    printf("3 Sealing \"%s\" gives a record, the bytes to send.\n", MARK);
-    end_line(printf("  By shares or plainly (by the whole keys) it is the same one. Its fields:"),
-             sealed && fields_right(record) && memcmp(record, plain, sizeof plain) == 0);
+    printf("3 The mark's body is 4 words: seconds since 1970 (2 words), fraction, offset.\n");
+    print_field("body", body, sizeof body, "\"" OUR_TIME "\"");
+    end_line(printf("  Sealing it by shares or plainly (by whole keys) gives one record to send:"),
+             sealed && memcmp(body, our_body, sizeof body) == 0 && fields_right(record, body)
+                    && memcmp(record, plain, sizeof plain) == 0);
     print_field("link", record, RASPPUCE_NUMBER_BYTES, "the link that it is for");
     print_field("number", record + NUMBER_AT, RASPPUCE_SEQUENCE_BYTES,
                 "sequence number: 1, 2, 3 and on");
-    print_field("text", record + TEXT_AT, MARK_BYTES, "the time mark, hidden");
+    print_field("text", record + TEXT_AT, BODY_BYTES, "the body, hidden");
     print_field("tag", record + TAG_AT, RASPPUCE_TAG_BYTES, "check value, made with a key");
 }
 
 /* ---- opening */
 
-/* The receiver opens a record and has to read this time mark. */
+/* The receiver opens a record and has to read this time in its body. */
 static void show_opening(both_ends *ends, const uint8_t record[RECORD_BYTES], const char *what,
-                         const char *mark)
+                         const char *expected)
 {
-    char opened[MARK_BYTES + 1] = {0};
-    uint32_t answer = open_mark(ends, record, opened);
-    end_line(printf("%s: \"%s\"", what, opened),
-             answer == RASPPUCE_OK && strcmp(opened, mark) == 0);
+    uint8_t body[BODY_BYTES] = {0};
+    char time[TIME_MOST] = "";
+    int read = open_body(ends, record, body) == RASPPUCE_OK
+            && read_time(body, time) == RASPPUCE_OK;
+    end_line(printf("%s \"%s\"", what, time), read && strcmp(time, expected) == 0);
 }
 
 /* The receiver has to refuse a record. Says whether it stays as it was then and gives nothing. */
 static int show_refusal(both_ends *ends, const uint8_t record[RECORD_BYTES], const char *what,
                         uint32_t expected, const char *why)
 {
-    static const char nothing[MARK_BYTES];
-    char opened[MARK_BYTES] = {0};
+    static const uint8_t nothing[BODY_BYTES];
+    uint8_t opened[BODY_BYTES] = {0};
     uint8_t before[RASPPUCE_RECEIVER_BYTES];
     memcpy(before, ends->receiver, sizeof before);
-    uint32_t answer = open_mark(ends, record, opened);
+    uint32_t answer = open_body(ends, record, opened);
     end_refused(printf("%s", what), answer, expected, why);
     return answer == expected && memcmp(before, ends->receiver, sizeof before) == 0
         && memcmp(opened, nothing, sizeof nothing) == 0;
 }
 
-/* Seals a time mark on the other link; says whether that link's own receiver opens it. */
+/* Seals our mark on the other link; says whether that link's own receiver opens it. */
 static int seal_other(uint8_t record[RECORD_BYTES])
 {
     both_ends ends = {0};
-    char opened[MARK_BYTES] = {0};
-    return key_both(&ends, OTHER_LINK) && seal_next(&ends, MARK, record)
-        && open_mark(&ends, record, opened) == RASPPUCE_OK
-        && memcmp(opened, MARK, MARK_BYTES) == 0;
+    uint8_t body[BODY_BYTES] = {0}, opened[BODY_BYTES] = {0};
+    return key_both(&ends, OTHER_LINK) && seal_next(&ends, &our_mark, body, record)
+        && open_body(&ends, record, opened) == RASPPUCE_OK
+        && memcmp(opened, body, sizeof body) == 0;
 }
 
 /* Three records that the receiver has to refuse, and the next one, which it has to open. */
 static void show_refusals(both_ends *ends, const uint8_t first[RECORD_BYTES])
 {
     uint8_t second[RECORD_BYTES] = {0}, damaged[RECORD_BYTES], other[RECORD_BYTES] = {0};
-    expect(seal_next(ends, NEXT_MARK, second), "record 2 was not sealed.");
+    uint8_t body[BODY_BYTES] = {0};
+    expect(seal_next(ends, &next_mark, body, second), "record 2 was not sealed.");
     expect(seal_other(other), "link 8 does not open its own record.");
     memcpy(damaged, second, sizeof second);
     damaged[TEXT_AT] ^= 1;
@@ -175,7 +181,7 @@ static void show_refusals(both_ends *ends, const uint8_t first[RECORD_BYTES])
     kept &= show_refusal(ends, other, "7 A record of link 8", RASPPUCE_OTHER_LINK,
                          "the receiver of link 8 opens it, the one of link 7 must not.");
     end_line(printf("  Each time the receiver gave out nothing and stayed as it was"), kept);
-    show_opening(ends, second, "8 So record 2, undamaged, still opens", NEXT_MARK);
+    show_opening(ends, second, "8 So record 2, undamaged, still opens:", next_mark.time);
 }
 
 int main(void)
@@ -186,7 +192,7 @@ int main(void)
     show_cipher();
     show_keys(&ends);
     show_sealing(&ends, record);
-    show_opening(&ends, record, "4 The receiver opens it", MARK);
+    show_opening(&ends, record, "4 The receiver opens it and reads", our_mark.time);
     show_refusals(&ends, record);
     return end_screen();
 }

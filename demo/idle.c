@@ -53,6 +53,19 @@ uint32_t rasppuce_report(const uint8_t *link, size_t link_len,
     return ANSWER;
 }
 
+uint32_t rasppuce_read_body(const uint8_t *body, size_t body_len,
+                            uint8_t *values, size_t values_len)
+{
+    return ANSWER;
+}
+
+uint32_t rasppuce_write_body(uint64_t seconds, uint32_t fraction,
+                             uint32_t has_offset, int32_t offset,
+                             uint8_t *body, size_t body_len)
+{
+    return ANSWER;
+}
+
 uint32_t rasppuce_encrypt_table(const uint8_t *key, size_t key_len,
                                 const uint8_t *input, size_t input_len,
                                 uint8_t *output, size_t output_len)

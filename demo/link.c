@@ -20,14 +20,6 @@ void add(uint8_t *to, const uint8_t *what)
         to[i] ^= what[i];
 }
 
-uint32_t read_number(const uint8_t *bytes)
-{
-    uint32_t number = 0;
-    for (int i = 0; i < (int)RASPPUCE_NUMBER_BYTES; i++)
-        number = number << 8 | bytes[i];
-    return number;
-}
-
 /* The two keys, each out of its shares. */
 static void join_keys(both_ends *ends)
 {
@@ -48,16 +40,15 @@ int key_both(both_ends *ends, uint32_t number)
                                  ends->keys, sizeof ends->keys) == RASPPUCE_OK;
 }
 
-uint32_t seal_mark(both_ends *ends, const char *mark, const uint8_t tape[TAPE_BYTES],
+uint32_t seal_body(both_ends *ends, const uint8_t body[BODY_BYTES], const uint8_t tape[TAPE_BYTES],
                    uint8_t record[RECORD_BYTES], uint8_t tag_shares[RASPPUCE_SHARES_BYTES])
 {
-    return rasppuce_seal(ends->sender, sizeof ends->sender, (const uint8_t *)mark, MARK_BYTES,
-                         tape, TAPE_BYTES, record, RECORD_BYTES,
-                         tag_shares, RASPPUCE_SHARES_BYTES);
+    return rasppuce_seal(ends->sender, sizeof ends->sender, body, BODY_BYTES, tape, TAPE_BYTES,
+                         record, RECORD_BYTES, tag_shares, RASPPUCE_SHARES_BYTES);
 }
 
-uint32_t open_mark(both_ends *ends, const uint8_t record[RECORD_BYTES], char mark[MARK_BYTES])
+uint32_t open_body(both_ends *ends, const uint8_t record[RECORD_BYTES], uint8_t body[BODY_BYTES])
 {
     return rasppuce_open(ends->receiver, sizeof ends->receiver, record, RECORD_BYTES,
-                         (uint8_t *)mark, MARK_BYTES);
+                         body, BODY_BYTES);
 }

@@ -8,13 +8,15 @@
 #include <stdio.h>
 #include <string.h>
 
-#define OTHER_MARK "1999-12-31 23:59:59.999 -05:00"
+static const time_mark other_mark = {946702799, 3 * QUARTER, -300,
+                                     "1999-12-31 23:59:59.750 -05:00"};
 
-/* Where the probe sits: this call is one of those that make the tag, with the second key. */
-enum { CALL = 5, ROUND = 17, LANE = 1 };
+/* Where the probe sits: this call is the last of those that make the tag, with the second key; the
+   body, hidden, goes into it. */
+enum { CALL = 4, ROUND = 17, LANE = 1 };
 
-/* All calls, and the one for the subkeys: as many are before it as the message has blocks. */
-enum { CALLS = RASPPUCE_CALLS(MARK_BYTES), SUBKEY_CALL = CALLS / 2 };
+/* All calls, and the one for the subkeys: as many are before it as the body has blocks. */
+enum { CALLS = RASPPUCE_CALLS(BODY_BYTES), SUBKEY_CALL = CALLS / 2 };
 
 /* Where the key share stands in the bytes of a lane, behind two state shares. */
 enum { KEY_SHARE_AT = 2 * BLOCK };
@@ -30,10 +32,11 @@ enum {
     V_AT = U_AT + BLOCK
 };
 
-/* One sealing: its link, time mark and tape. */
+/* One sealing: its link, time mark with body, and tape. */
 typedef struct {
     both_ends ends;
-    const char *mark;
+    const time_mark *mark;
+    uint8_t body[BODY_BYTES];
     uint8_t tape[TAPE_BYTES];
 } sealing;
 
@@ -49,9 +52,8 @@ static const uint8_t *key_of(const sealing *s)
 static uint32_t report(const sealing *s, uint32_t call, uint32_t round, uint32_t lane,
                        uint8_t seen[RASPPUCE_LANE_BYTES])
 {
-    return rasppuce_report(s->ends.sender, sizeof s->ends.sender,
-                           (const uint8_t *)s->mark, MARK_BYTES, s->tape, sizeof s->tape,
-                           call, round, lane, seen, RASPPUCE_LANE_BYTES);
+    return rasppuce_report(s->ends.sender, sizeof s->ends.sender, s->body, sizeof s->body,
+                           s->tape, sizeof s->tape, call, round, lane, seen, RASPPUCE_LANE_BYTES);
 }
 
 /* Joins the shares that stand at one place of the three lanes; says whether all were shown. */
@@ -104,16 +106,17 @@ static int lanes_right(const sealing *s)
         && report(s, CALL, ROUND, RASPPUCE_LAST_LANE + 1, seen) == RASPPUCE_LANE;
 }
 
-/* Seals on a copy of the link; says whether all the tape was read and the receiver opens it. */
+/* Seals on a copy of the link; says whether all the tape was read and its receiver has the time. */
 static int sealed_right(const sealing *s, uint8_t record[RECORD_BYTES])
 {
     both_ends ends = s->ends;
-    uint8_t tag_shares[RASPPUCE_SHARES_BYTES] = {0};
-    char opened[MARK_BYTES] = {0};
-    return seal_mark(&ends, s->mark, s->tape, record, tag_shares) == RASPPUCE_OK
+    uint8_t tag_shares[RASPPUCE_SHARES_BYTES] = {0}, opened[BODY_BYTES] = {0};
+    char time[TIME_MOST] = "";
+    return seal_body(&ends, s->body, s->tape, record, tag_shares) == RASPPUCE_OK
         && read_number(tag_shares + SHARES * BLOCK) == TAPE_BYTES
-        && open_mark(&ends, record, opened) == RASPPUCE_OK
-        && memcmp(opened, s->mark, MARK_BYTES) == 0;
+        && open_body(&ends, record, opened) == RASPPUCE_OK
+        && memcmp(opened, s->body, sizeof opened) == 0
+        && read_time(opened, time) == RASPPUCE_OK && strcmp(time, s->mark->time) == 0;
 }
 
 /* Whether another tape gives the same record, with other shares on the way. */
@@ -215,7 +218,7 @@ static void show_masks(const sealing *ours, const sealing *theirs, int fits)
     end_line(printf("  for this round's state shares. It is sound too: its receiver opens it."),
              fits);
     print_pair("key", key_of(ours), key_of(theirs));
-    printf("time   %-37s%s\n", ours->mark, theirs->mark);
+    printf("time   %-37s%s\n", ours->mark->time, theirs->mark->time);
     print_pair("mask d", ours->tape + D_AT, theirs->tape + D_AT);
     print_pair("mask u", ours->tape + U_AT, theirs->tape + U_AT);
     print_pair("mask v", ours->tape + V_AT, theirs->tape + V_AT);
@@ -238,10 +241,12 @@ static void show_seen(const uint8_t left[RASPPUCE_LANE_BYTES],
 
 int main(void)
 {
-    sealing ours = {.mark = MARK}, theirs = {.mark = OTHER_MARK};
+    sealing ours = {.mark = &our_mark}, theirs = {.mark = &other_mark};
     uint8_t left[RASPPUCE_LANE_BYTES] = {0}, right[RASPPUCE_LANE_BYTES] = {0};
     printf("Could a probe (a device that reads bytes inside the sender) find out its key?\n");
     expect(key_both(&ours.ends, LINK), "the keys were refused.");
+    expect(write_mark(ours.mark, ours.body) == RASPPUCE_OK
+           && write_mark(theirs.mark, theirs.body) == RASPPUCE_OK, "the time marks were refused.");
     fill(ours.tape, sizeof ours.tape);
     int fits = report(&ours, CALL, ROUND, LANE, left) == RASPPUCE_OK
             && fit(&ours, &theirs, left)

@@ -21,14 +21,30 @@
 #if RASPPUCE_TAPE_BYTES(0) != 2304 || RASPPUCE_TAPE_BYTES(RASPPUCE_MESSAGE_MOST) != RASPPUCE_TAPE_MOST
 #error "1120 bytes for each call, and 64"
 #endif
+#if RASPPUCE_VALUES_BYTES != 8 + 4 + 1 + 4
+#error "seconds, fraction, whether there is an offset, offset"
+#endif
+#if RASPPUCE_BODY_BYTES(0) != 12 || RASPPUCE_BODY_BYTES(1) != 16 || RASPPUCE_BODY_BYTES(2) != 16
+#error "a word for each kind, and one more for an offset"
+#endif
+#if RASPPUCE_BODY_MOST > RASPPUCE_MESSAGE_MOST
+#error "every body can be sealed"
+#endif
+#if RASPPUCE_FRACTION_END != 1 << 28 || RASPPUCE_SECONDS_END != RASPPUCE_FRACTION_END * RASPPUCE_FRACTION_END
+#error "28 bits of a fraction, 56 of seconds"
+#endif
+#if RASPPUCE_OFFSET_LEAST != -12 * 60 || RASPPUCE_OFFSET_MOST != 14 * 60
+#error "12 hours to the west, 14 to the east"
+#endif
 #if RASPPUCE_VERSION_MAJOR < 1
 #error "no version"
 #endif
 
-/* The answers that there are: 0 to 10 and 20 to 22. */
+/* The answers that there are: 0 to 10, 20 to 22 and 30 to 32. */
 static int is_answer(uint32_t number)
 {
-    return number <= RASPPUCE_SEQUENCE || (RASPPUCE_NOT_KEYED <= number && number <= RASPPUCE_OLD_NUMBER);
+    return number <= RASPPUCE_SEQUENCE || (RASPPUCE_NOT_KEYED <= number && number <= RASPPUCE_OLD_NUMBER)
+        || (RASPPUCE_BODY_LENGTH <= number && number <= RASPPUCE_BODY_MISSING);
 }
 
 /* Every answer has words of its own, and no other number has any. */
@@ -48,6 +64,18 @@ static void versions(void)
     char text[32];
     snprintf(text, sizeof text, "%d.%d.%d", RASPPUCE_VERSION_MAJOR, RASPPUCE_VERSION_MINOR, RASPPUCE_VERSION_PATCH);
     check(strcmp(text, RASPPUCE_VERSION) == 0, "the version's text");
+}
+
+/* What a mark's values stay within, in the types of the call that writes a body; sizes of arrays. */
+static void limits(void)
+{
+    uint64_t seconds = RASPPUCE_SECONDS_END - 1;
+    uint32_t fraction = RASPPUCE_FRACTION_END - 1;
+    int32_t least = RASPPUCE_OFFSET_LEAST, most = RASPPUCE_OFFSET_MOST;
+    static const uint8_t body[RASPPUCE_BODY_BYTES(1)] = {0}, values[RASPPUCE_VALUES_BYTES] = {0};
+    check(seconds >> 55 == 1 && fraction >> 27 == 1, "the last second and the last fraction");
+    check(least < 0 && most > 0, "offsets to both sides");
+    check(sizeof body == 16 && sizeof values == 17, "a body and its values");
 }
 
 /* A wipe clears the bytes lent and no other. */
@@ -72,6 +100,7 @@ int main(void)
 {
     meanings();
     versions();
+    limits();
     wipes();
     return end_checks();
 }

@@ -1,6 +1,7 @@
 /*
- * A rack's host in C: keys a pair of links, seals by shares and plainly, opens, and meets every
- * refusal once. It checks all that it sees; the exit status is 1 if anything surprised it.
+ * A rack's host in C: keys a pair of links, seals by shares and plainly, opens, writes and reads
+ * bodies, and meets every refusal. It checks all that it sees; the exit status is 1 if anything
+ * surprised it.
  *
  *     host                      does all that three times: with every slice before a page that can't
  *                               be touched, with every slice after one, and at odd addresses
@@ -36,7 +37,7 @@ typedef struct {
 
 static enum { AT_START, AT_END, AT_ODD, PLACES } place; /* where slices stand in their rooms */
 
-enum { MOST_SLICES = 20 };
+enum { MOST_SLICES = 24 };
 static slice *all_slices[MOST_SLICES];
 static unsigned slice_count;
 
@@ -144,6 +145,7 @@ static slice receiver;       /* the receiving link of the records sealed by shar
 static slice plain_receiver; /* another one, of those sealed plainly */
 static slice message, tape, record, plain_record, tag_shares, opened, lane;
 static slice key, block, by_table, by_words, back; /* for the block cipher */
+static slice body, values;   /* of a time mark */
 static slice fresh;          /* a sending link that is never keyed */
 static slice odd;            /* of a length that is refused */
 
@@ -166,6 +168,8 @@ static void set_up(void)
     take(&by_table, RASPPUCE_BLOCK_BYTES);
     take(&by_words, RASPPUCE_BLOCK_BYTES);
     take(&back, RASPPUCE_BLOCK_BYTES);
+    take(&body, RASPPUCE_BODY_MOST);
+    take(&values, RASPPUCE_VALUES_BYTES);
     take(&fresh, RASPPUCE_SENDER_BYTES);
     take(&odd, 0);
 }
@@ -279,20 +283,95 @@ static void blocks(void)
     printf("  table and packed words agree, both ways\n");
 }
 
+/* ---- bodies of time marks */
+
+/* A word of a body: its kind, and 28 bits. */
+#define WORD(kind, field) ((uint32_t)(kind) << 28 | ((uint32_t)(field) & (RASPPUCE_FRACTION_END - 1)))
+
+static void put_words(slice *s, const uint32_t *words, size_t count)
+{
+    fit(s, 4 * count);
+    for (size_t i = 0; i < count; i++)
+        put_number(s->at + 4 * i, words[i]);
+}
+
+/* Reads `body` into an output with so many spare bytes; its values have to be these. */
+static void read_values(size_t spare, uint64_t seconds, uint32_t fraction, int has_offset, int32_t offset)
+{
+    fit_marked(&values, RASPPUCE_VALUES_BYTES + spare);
+    check(rasppuce_read_body(LEND(body), LEND(values)) == RASPPUCE_OK, "reading a body");
+    check(untouched(&values, RASPPUCE_VALUES_BYTES), "nothing is written past the values");
+    check(number_at(values.at) == seconds >> 32 && number_at(values.at + 4) == (uint32_t)seconds,
+          "the seconds");
+    check(number_at(values.at + 8) == fraction, "the fraction");
+    check(values.at[12] == has_offset && number_at(values.at + 13) == (has_offset ? (uint32_t)offset : 0),
+          "the offset, or zeros");
+}
+
+/* A body that is written and read, into outputs with so many spare bytes. */
+static void write_and_read(size_t spare, uint64_t seconds, uint32_t fraction, uint32_t has_offset,
+                           int32_t offset)
+{
+    size_t len = RASPPUCE_BODY_BYTES(has_offset);
+    fit_marked(&body, len + spare);
+    check(rasppuce_write_body(seconds, fraction, has_offset, offset, LEND(body)) == RASPPUCE_OK,
+          "writing a body");
+    check(untouched(&body, len), "nothing is written past the body");
+    check(number_at(body.at) == WORD(1, seconds >> 28) && number_at(body.at + 4) == WORD(2, seconds)
+          && number_at(body.at + 8) == WORD(3, fraction), "the words of kinds 1, 2 and 3");
+    check(!has_offset || number_at(body.at + 12) == WORD(4, offset), "the word of kind 4");
+    fit(&body, len);
+    read_values(spare, seconds, fraction, has_offset != 0, offset);
+    printf("  body of %lu bytes, %llu seconds: written and read back\n", (unsigned long)len,
+           (unsigned long long)seconds);
+}
+
+/* The longest body: skipped words of each kind from 5 to 15; among them 4, 3, 2 and 1, in that order. */
+static void read_longest(void)
+{
+    enum { WORDS = RASPPUCE_BODY_MOST / 4 };
+    uint32_t words[WORDS];
+    for (uint32_t i = 0; i < WORDS; i++)
+        words[i] = WORD(5 + i % 11, 0x5a5a5a5 * i);
+    words[0] = WORD(4, -300);
+    words[20] = WORD(3, 5);
+    words[40] = WORD(2, 6);
+    words[WORDS - 1] = WORD(1, 7);
+    put_words(&body, words, WORDS);
+    read_values(0, (uint64_t)7 << 28 | 6, 5, 1, -300);
+    printf("  body of %lu bytes, words in another order, others skipped: read\n", (unsigned long)body.len);
+}
+
+static void bodies(void)
+{
+    const uint64_t last_second = RASPPUCE_SECONDS_END - 1;
+    const uint32_t last_fraction = RASPPUCE_FRACTION_END - 1;
+    write_and_read(0, 1772456709, RASPPUCE_FRACTION_END / 4, 1, 60);
+    write_and_read(SPARE, 0, 0, 1, RASPPUCE_OFFSET_LEAST);
+    write_and_read(SPARE, last_second, last_fraction, 1, RASPPUCE_OFFSET_MOST);
+    write_and_read(0, last_second, 0, UINT32_MAX, 0); /* any number but 0 says that there is an offset */
+    write_and_read(0, 0, last_fraction, 0, 0);
+    write_and_read(SPARE, 1772456709, 0, 0, INT32_MIN); /* there is none, so this isn't looked at */
+    read_longest();
+}
+
 /* ---- every refusal; `save` before the call, then `refused` */
 
-static int met[RASPPUCE_OLD_NUMBER + 1];
+enum { LAST_REFUSAL = RASPPUCE_BODY_MISSING };
+
+static int met[LAST_REFUSAL + 1];
 
 static int is_refusal(uint32_t number)
 {
     return (RASPPUCE_KEYS <= number && number <= RASPPUCE_SEQUENCE)
-        || (RASPPUCE_NOT_KEYED <= number && number <= RASPPUCE_OLD_NUMBER);
+        || (RASPPUCE_NOT_KEYED <= number && number <= RASPPUCE_OLD_NUMBER)
+        || (RASPPUCE_BODY_LENGTH <= number && number <= RASPPUCE_BODY_MISSING);
 }
 
 static void refused(uint32_t answer, uint32_t expected, const char *how)
 {
     check(answer == expected, how);
-    if (answer <= RASPPUCE_OLD_NUMBER)
+    if (answer <= LAST_REFUSAL)
         met[answer] = 1;
     check(all_as_saved(), "a refusal leaves every byte as it was");
     printf("  %2lu  %-46s %s\n", (unsigned long)answer, how, rasppuce_meaning(answer));
@@ -303,6 +382,75 @@ static void save_odd(size_t len)
 {
     fit_marked(&odd, len);
     save();
+}
+
+/* Words that make no body, the first refusal of each, and how a log would say it. */
+typedef struct {
+    uint32_t answer;
+    const char *how;
+    size_t count;
+    uint32_t words[5];
+} no_body;
+
+static const no_body no_bodies[] = {
+    {RASPPUCE_BODY_WORD, "a word of kind 0", 4, {WORD(1, 0), WORD(2, 0), WORD(3, 0), WORD(0, 1)}},
+    {RASPPUCE_BODY_WORD, "kind 1 twice", 4, {WORD(1, 0), WORD(2, 0), WORD(3, 0), WORD(1, 0)}},
+    {RASPPUCE_BODY_WORD, "kind 2 twice", 4, {WORD(1, 0), WORD(2, 0), WORD(2, 0), WORD(3, 0)}},
+    {RASPPUCE_BODY_WORD, "kind 3 twice", 4, {WORD(3, 0), WORD(1, 0), WORD(3, 1), WORD(2, 0)}},
+    {RASPPUCE_BODY_WORD, "kind 4 twice", 5, {WORD(1, 0), WORD(2, 0), WORD(3, 0), WORD(4, 0), WORD(4, 0)}},
+    {RASPPUCE_BODY_WORD, "an offset of 841", 4, {WORD(1, 0), WORD(2, 0), WORD(3, 0), WORD(4, 841)}},
+    {RASPPUCE_BODY_WORD, "an offset of -721", 4, {WORD(1, 0), WORD(2, 0), WORD(3, 0), WORD(4, -721)}},
+    {RASPPUCE_BODY_WORD, "kind 0 where others are missing too", 1, {WORD(0, 0)}},
+    {RASPPUCE_BODY_MISSING, "no kind 1", 3, {WORD(2, 0), WORD(3, 0), WORD(4, 0)}},
+    {RASPPUCE_BODY_MISSING, "no kind 2", 3, {WORD(1, 0), WORD(3, 0), WORD(4, 0)}},
+    {RASPPUCE_BODY_MISSING, "no kind 3", 3, {WORD(1, 0), WORD(2, 0), WORD(4, 0)}},
+    {RASPPUCE_BODY_MISSING, "only skipped words", 2, {WORD(5, 0), WORD(15, 0)}},
+};
+
+/* What reading a body refuses, also where the output is too short besides. */
+static void read_refusals(void)
+{
+    static const uint32_t sound[] = {WORD(1, 0), WORD(2, 0), WORD(3, 0)};
+    fit_marked(&values, RASPPUCE_VALUES_BYTES);
+    save();
+    refused(rasppuce_read_body(NULL, 0, LEND(values)), RASPPUCE_BODY_LENGTH, "an empty body");
+    save_odd(13);
+    refused(rasppuce_read_body(LEND(odd), LEND(values)), RASPPUCE_BODY_LENGTH, "a body of 13 bytes");
+    save_odd(RASPPUCE_BODY_MOST + 4);
+    refused(rasppuce_read_body(LEND(odd), LEND(values)), RASPPUCE_BODY_LENGTH, "a body of 260 bytes");
+    for (size_t i = 0; i < sizeof no_bodies / sizeof no_bodies[0]; i++) {
+        const no_body *b = &no_bodies[i];
+        put_words(&body, b->words, b->count);
+        save();
+        refused(rasppuce_read_body(LEND(body), LEND(values)), b->answer, b->how);
+        check(rasppuce_read_body(LEND(body), NULL, 0) == b->answer, "the body's refusals come first");
+    }
+    put_words(&body, sound, 3);
+    save_odd(RASPPUCE_VALUES_BYTES - 1);
+    refused(rasppuce_read_body(LEND(body), LEND(odd)), RASPPUCE_OUTPUT, "16 bytes for the values");
+    refused(rasppuce_read_body(LEND(body), NULL, 0), RASPPUCE_OUTPUT, "no bytes for the values");
+}
+
+/* What writing one refuses. */
+static void write_refusals(void)
+{
+    fit_marked(&body, RASPPUCE_BODY_BYTES(1));
+    save();
+    refused(rasppuce_write_body(RASPPUCE_SECONDS_END, 0, 1, 0, LEND(body)), RASPPUCE_BODY_WORD,
+            "2^56 seconds");
+    refused(rasppuce_write_body(0, RASPPUCE_FRACTION_END, 0, 0, LEND(body)), RASPPUCE_BODY_WORD,
+            "a fraction of 2^28");
+    refused(rasppuce_write_body(0, 0, 1, RASPPUCE_OFFSET_MOST + 1, LEND(body)), RASPPUCE_BODY_WORD,
+            "an offset of 841, to be written");
+    refused(rasppuce_write_body(0, 0, 1, RASPPUCE_OFFSET_LEAST - 1, LEND(body)), RASPPUCE_BODY_WORD,
+            "an offset of -721, to be written");
+    refused(rasppuce_write_body(UINT64_MAX, 0, 0, 0, NULL, 0), RASPPUCE_BODY_WORD,
+            "too many seconds, and no output");
+    refused(rasppuce_write_body(0, 0, 0, 0, NULL, 0), RASPPUCE_OUTPUT, "no bytes for a body");
+    save_odd(RASPPUCE_BODY_BYTES(1) - 1);
+    refused(rasppuce_write_body(0, 0, 1, 0, LEND(odd)), RASPPUCE_OUTPUT, "15 bytes for a body with an offset");
+    save_odd(RASPPUCE_BODY_BYTES(0) - 1);
+    refused(rasppuce_write_body(0, 0, 0, 0, LEND(odd)), RASPPUCE_OUTPUT, "11 bytes for one without");
 }
 
 static void refusals(void)
@@ -379,7 +527,9 @@ static void refusals(void)
     refused(rasppuce_seal(LEND(sender), LEND(message), LEND(tape), LEND(plain_record), LEND(tag_shares)),
             RASPPUCE_NUMBERS_USED, "a sender whose last number is 4294967295");
 
-    for (uint32_t i = 0; i <= RASPPUCE_OLD_NUMBER; i++)
+    read_refusals();
+    write_refusals();
+    for (uint32_t i = 0; i <= LAST_REFUSAL; i++)
         check(met[i] == is_refusal(i), "every refusal was met, and no other number");
 }
 
@@ -399,6 +549,8 @@ static void play(void)
     report(32, 6, 35);
     printf("block cipher\n");
     blocks();
+    printf("bodies\n");
+    bodies();
     printf("refusals\n");
     refusals();
     give_all_back();

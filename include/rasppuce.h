@@ -19,7 +19,7 @@
  * - Success writes what is said here and leaves the rest of a longer slice untouched.
  * - It keeps nothing: what lasts from call to call is in the bytes of the link. Threads may call
  *   at once on different links, as long as none writes to bytes that are lent to another then.
- * - Multi-byte numbers in links, records and counts are big-endian.
+ * - Multi-byte numbers in links, records, counts, bodies and values are big-endian.
  *
  * What the host has to see to:
  *
@@ -28,10 +28,10 @@
  *   would have a number that was used, and under one number the key stream is the same: two such
  *   ciphertexts XOR to what their messages XOR to. If a stored link may be old, use new keys.
  *   An older copy of a receiving link lets the records since then in once more.
- * - Secrets in memory. Links, keys and tapes are secret; rasppuce_wipe clears them. Every call but
- *   keying also leaves bytes of keys or key shares on the stack below its caller, and some leave
- *   bytes of the key stream or the message (bench/sizes shows which). Where somebody could read
- *   them there, clear that too, from the function that made the call:
+ * - Secrets in memory. Links, keys and tapes are secret; rasppuce_wipe clears them. Every call that
+ *   uses keys also leaves bytes of keys or key shares on the stack below its caller, and some calls
+ *   leave bytes of the key stream, the message or the body (bench/sizes shows which). Where somebody
+ *   could read them there, clear that too, from the function that made the call:
  *
  *       __attribute__((noinline, no_stack_protector)) static void wipe_stack(void)
  *       {
@@ -56,11 +56,12 @@ extern "C" {
 /* ---- version of this header and of the archive that comes with it: see CHANGELOG.md */
 
 #define RASPPUCE_VERSION_MAJOR 1
-#define RASPPUCE_VERSION_MINOR 0
+#define RASPPUCE_VERSION_MINOR 1
 #define RASPPUCE_VERSION_PATCH 0
-#define RASPPUCE_VERSION       "1.0.0"
+#define RASPPUCE_VERSION       "1.1.0"
 
-/* ---- answers: success, refusals from the input (1 to 10), refusals from the link's state */
+/* ---- answers: success, refusals from the input (1 to 10), from the link's state (20 to 22), and
+ * of bodies (30 to 32) */
 
 #define RASPPUCE_OK            0u /* done */
 #define RASPPUCE_KEYS          1u /* key material isn't 96 bytes (sender) or 32; in keying, also
@@ -77,6 +78,10 @@ extern "C" {
 #define RASPPUCE_NOT_KEYED    20u /* the link isn't keyed, or its slice has a wrong length */
 #define RASPPUCE_NUMBERS_USED 21u /* the sender's last number is 4294967295, so none is left */
 #define RASPPUCE_OLD_NUMBER   22u /* the record's number isn't above the last accepted one */
+#define RASPPUCE_BODY_LENGTH  30u /* body not 4 to 256 bytes in steps of 4 */
+#define RASPPUCE_BODY_WORD    31u /* read: a word of kind 0, a kind 1 to 4 for the second time, or an
+                                     offset out of its range; written: a value out of its range */
+#define RASPPUCE_BODY_MISSING 32u /* the body has no word of kind 1, 2 or 3 */
 
 /* ---- sizes in bytes; they can stand in #if */
 
@@ -93,6 +98,8 @@ extern "C" {
 #define RASPPUCE_RECORD_MOST         280u /* the longest record */
 #define RASPPUCE_SHARES_BYTES        52u  /* three tag shares and the tape count */
 #define RASPPUCE_LANE_BYTES          48u  /* one reported lane */
+#define RASPPUCE_BODY_MOST           256u /* the longest body that can be read */
+#define RASPPUCE_VALUES_BYTES        17u  /* the values of a mark */
 #define RASPPUCE_KEY_MASKS_BYTES     64u  /* of a tape: two masks for each key, at its start */
 #define RASPPUCE_ROUND_MASKS_BYTES   32u  /* of a tape: two masks for each round of each call */
 #define RASPPUCE_TAPE_MOST           38144u /* the tape for the longest message */
@@ -101,6 +108,16 @@ extern "C" {
 /* The last round that a report can show, and the last lane; rounds count from 1, lanes from 0. */
 #define RASPPUCE_LAST_ROUND 35u
 #define RASPPUCE_LAST_LANE  2u
+
+/* The first and the last local offset of a mark, in minutes; what its seconds and its fraction of a
+ * second, in 2^-28 seconds, stay below. */
+#define RASPPUCE_OFFSET_LEAST (-720)
+#define RASPPUCE_OFFSET_MOST  840
+#define RASPPUCE_SECONDS_END  72057594037927936u
+#define RASPPUCE_FRACTION_END 268435456u
+
+/* The bytes that rasppuce_write_body writes for a mark with an offset (h is not 0) or without. */
+#define RASPPUCE_BODY_BYTES(h) ((h) != 0 ? 16u : 12u)
 
 /* For a message of m bytes: how many calls of the cipher a sealing makes, and the tape it needs. */
 #define RASPPUCE_CALLS(m) (2u * (((m) + 15u) / 16u) + 2u)
@@ -127,6 +144,9 @@ static inline const char *rasppuce_meaning(uint32_t answer)
     case RASPPUCE_NOT_KEYED:    return "the link is not keyed";
     case RASPPUCE_NUMBERS_USED: return "the link has used its last number: key it anew";
     case RASPPUCE_OLD_NUMBER:   return "this number or a later one was accepted before";
+    case RASPPUCE_BODY_LENGTH:  return "a body has 4 to 256 bytes, in steps of 4";
+    case RASPPUCE_BODY_WORD:    return "a word of the body or a value of the mark is not allowed";
+    case RASPPUCE_BODY_MISSING: return "the body lacks the seconds or their fraction";
     default:                    return "no answer of Rasppuce";
     }
 }
@@ -253,6 +273,51 @@ uint32_t rasppuce_report(const uint8_t *link, size_t link_len,
                          const uint8_t *tape, size_t tape_len,
                          uint32_t call, uint32_t round, uint32_t lane,
                          uint8_t *out, size_t out_len);
+
+/* ---- the body of a mark: what to seal
+ *
+ * A body is words of 32 bits, each big-endian in four bytes. The top four bits of a word are its
+ * kind, the other 28 its field:
+ *
+ *     kind 0          not allowed
+ *     kind 1          the high 28 bits of the count of seconds
+ *     kind 2          its low 28 bits
+ *     kind 3          the fraction of a second, in 2^-28 seconds
+ *     kind 4          the local offset in minutes, -720 to 840, in two's complement
+ *     kinds 5 to 15   skipped when read
+ *
+ * Kinds 1, 2 and 3 are needed, 4 may be missing, and none of 1 to 4 may stand twice. In any order
+ * the words say the same. From which instant on seconds are counted is the host's choice.
+ */
+
+/*
+ * Reads a body.
+ *
+ * values  gets 17 bytes: seconds (8), fraction (4), 1 if there is an offset or else 0 (1), the
+ *         offset in 32 bits of two's complement, or zeros (4).
+ *
+ * Refuses: RASPPUCE_BODY_LENGTH, RASPPUCE_BODY_WORD, RASPPUCE_BODY_MISSING, RASPPUCE_OUTPUT (values
+ * shorter than 17).
+ */
+RASPPUCE_CHECK
+uint32_t rasppuce_read_body(const uint8_t *body, size_t body_len,
+                            uint8_t *values, size_t values_len);
+
+/*
+ * Writes the body of a mark: kinds 1, 2, 3, and 4 if it has an offset.
+ *
+ * seconds     below RASPPUCE_SECONDS_END
+ * fraction    below RASPPUCE_FRACTION_END
+ * has_offset  0 if there is no offset; offset isn't looked at then
+ * offset      -720 to 840
+ * body        gets RASPPUCE_BODY_BYTES(has_offset) bytes, 12 or 16
+ *
+ * Refuses: RASPPUCE_BODY_WORD (a value out of its range), RASPPUCE_OUTPUT (body shorter than that).
+ */
+RASPPUCE_CHECK
+uint32_t rasppuce_write_body(uint64_t seconds, uint32_t fraction,
+                             uint32_t has_offset, int32_t offset,
+                             uint8_t *body, size_t body_len);
 
 /* ---- the block cipher alone
  *

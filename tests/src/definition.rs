@@ -2,6 +2,7 @@
 //! its modes against NIST's examples, its shares against its plain cipher.
 
 use crate::aes;
+use crate::body::{self, Mark};
 use crate::cipher::{self, Block, CONSTANTS, PERMUTATION, ROUNDS, SBOX};
 use crate::hex;
 use crate::links;
@@ -176,7 +177,7 @@ pub fn shares(tally: &mut Tally) {
     }
 }
 
-/// Values that are set: doubling, and the tape's need.
+/// Values that are set: doubling, the tape's need, and bodies.
 pub fn values(tally: &mut Tally) {
     let mut top = [0; 16];
     top[0] = 0x80;
@@ -193,5 +194,94 @@ pub fn values(tally: &mut Tally) {
         let tape = vec![0; need as usize];
         let used = shares::seal(1, 1, &[[0; 16]; 3], &[[0; 16]; 3], &vec![0; length], &tape).used;
         tally.same_number(format_args!("tape read for {length} bytes"), used as u32, need);
+    }
+    written_bodies(tally);
+    read_bodies(tally);
+}
+
+/// Marks, and the words that they have to be written as, or the number where they are refused.
+fn written_bodies(tally: &mut Tally) {
+    const MOST: u64 = 72_057_594_037_927_935;
+    let cases: [(u64, u32, Option<i32>, Result<&str, u32>); 13] = [
+        (0, 0, None, Ok("100000002000000030000000")),
+        (1, 2, Some(3), Ok("10000000200000013000000240000003")),
+        // 69a58b05 hexadecimal, a quarter of a second, one hour
+        (1_772_456_709, 67_108_864, Some(60), Ok("1000000629a58b05340000004000003c")),
+        (268_435_455, 0, Some(-1), Ok("100000002fffffff300000004fffffff")),
+        (268_435_456, 0, Some(-2), Ok("1000000120000000300000004ffffffe")),
+        (0x0012_3456_789a_bcde, 0x0fed_cba9, None, Ok("11234567289abcde3fedcba9")),
+        (MOST, 268_435_455, Some(840), Ok("1fffffff2fffffff3fffffff40000348")),
+        (MOST, 268_435_455, Some(-720), Ok("1fffffff2fffffff3fffffff4ffffd30")),
+        (MOST + 1, 0, None, Err(31)),
+        (0, 268_435_456, None, Err(31)),
+        (0, 0, Some(841), Err(31)),
+        (0, 0, Some(-721), Err(31)),
+        (u64::MAX, u32::MAX, Some(i32::MIN), Err(31)),
+    ];
+    for (seconds, fraction, offset, expected) in cases {
+        let what = format!("{seconds}, {fraction}, {offset:?}");
+        let known = expected.err().unwrap_or(0);
+        let mark = Mark { seconds, fraction, offset };
+        let mut body = vec![0; if offset.is_some() { 16 } else { 12 }];
+        let answer = body::write(&mark, &mut body);
+        tally.same_number(format_args!("own writing of {what}"), answer, known);
+        let bytes = |digits| hex::bytes(digits).expect("digits");
+        let expected = expected.map_or(vec![0; body.len()], bytes);
+        tally.same(format_args!("own body of {what}"), &body, &expected);
+        let less = body.len() - 1;
+        let answer = body::write(&mark, &mut body[..less]);
+        let known = if known == 0 { 4 } else { known };
+        tally.same_number(format_args!("own writing of {what}, {less} bytes"), answer, known);
+    }
+}
+
+/// Bodies, and the values that have to be read in them: seconds, fraction, 1 and the offset or else
+/// zeros; or the number where they are refused.
+fn read_bodies(tally: &mut Tally) {
+    let cases: [(&str, Result<&str, u32>); 21] = [
+        ("1000000629a58b05340000004000003c", Ok("0000000069a58b0504000000010000003c")),
+        ("4fffffff300000032000000210000001", Ok("00000000100000020000000301ffffffff")),
+        ("2fffffff3fffffff1fffffff", Ok("00ffffffffffffff0fffffff0000000000")),
+        ("100000016fffffff2000000230000003f0000000", Ok("0000000010000002000000030000000000")),
+        ("10000000200000003000000040000348", Ok("0000000000000000000000000100000348")),
+        ("1000000020000000300000004ffffd30", Ok("00000000000000000000000001fffffd30")),
+        ("", Err(30)),
+        ("100000", Err(30)),
+        ("00000000000000", Err(30)),
+        ("10000001200000023000000350", Err(30)),
+        ("00000000", Err(31)),
+        ("1000000120000002300000030fffffff", Err(31)),
+        ("10000001200000022000000230000003", Err(31)),
+        ("10000001500000002000000210000001", Err(31)),
+        ("10000000200000003000000040000349", Err(31)),
+        ("1000000020000000300000004ffffd2f", Err(31)),
+        ("10000000200000003000000048000000", Err(31)),
+        ("1000000020000000300000004000003c4000003c", Err(31)),
+        ("1000000120000002", Err(32)),
+        ("10000001300000034fffffff", Err(32)),
+        ("4000000020000002300000035fffffff", Err(32)),
+    ];
+    for (digits, expected) in cases {
+        let body = hex::bytes(digits).expect("digits");
+        let known = expected.err().unwrap_or(0);
+        let mut values = [0; 17];
+        let answer = body::read(&body, &mut values);
+        tally.same_number(format_args!("own reading of '{digits}'"), answer, known);
+        let bytes = |digits| hex::bytes(digits).expect("digits");
+        let expected = expected.map_or(vec![0; 17], bytes);
+        tally.same(format_args!("own values of '{digits}'"), &values, &expected);
+        let answer = body::read(&body, &mut values[..16]);
+        let known = if known == 0 { 4 } else { known };
+        tally.same_number(format_args!("own reading of '{digits}', 16 bytes"), answer, known);
+    }
+    for (length, answer) in [(252, 32), (256, 32), (257, 30), (258, 30), (260, 30)] {
+        let read = body::read(&vec![0x55; length], &mut [0; 17]);
+        tally.same_number(format_args!("own reading of {length} bytes"), read, answer);
+    }
+    for kind in 0..16 {
+        let body = [0x10, 0, 0, 0, 0x20, 0, 0, 0, 0x30, 0, 0, 0, kind << 4, 0, 0, 0];
+        let answer = if kind < 4 { 31 } else { 0 };
+        let read = body::read(&body, &mut [0; 17]);
+        tally.same_number(format_args!("own reading of a word of kind {kind}"), read, answer);
     }
 }

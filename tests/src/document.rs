@@ -1,6 +1,7 @@
 //! Writes `docs/vectors.txt` by the code of these tests alone: vectors for whoever writes a receiver
 //! or a sender of their own.
 
+use crate::body::{self, Mark, BAD_LENGTH, BAD_WORD, MISSING_KIND};
 use crate::cipher::{self, Block};
 use crate::held::LENGTHS;
 use crate::hex::Hex;
@@ -16,12 +17,16 @@ use std::iter;
 const HEAD: &str = include_str!("document_head.txt");
 
 const TIME_MARK: &[u8] = b"2026-03-02 14:05:09.250 +01:00";
+/// The same as a body, its seconds counted from 1970.
+const TIME_MARK_WORDS: [u32; 4] = [0x1000_0006, 0x29a5_8b05, 0x3400_0000, 0x4000_003c];
 
 pub fn print() {
     print!("{HEAD}");
     blocks(&mut Random::new(1));
     records(&mut Random::new(2));
     refused(&mut Random::new(3));
+    bodies(&mut Random::new(5));
+    refused_bodies();
     shared(&mut Random::new(4));
 }
 
@@ -117,6 +122,8 @@ fn records(random: &mut Random) {
             &random.bytes(length),
         );
     }
+    let body = body::bytes(&TIME_MARK_WORDS);
+    records.put("a time mark, the body of [body 1]", &random.bytes(32), 7, 2, &body);
 }
 
 // ---- records that are refused
@@ -150,7 +157,10 @@ fn words(answer: u32) -> &'static str {
         OTHER_LINK => "the record is for another link",
         WRONG_TAG => "wrong tag: damaged, forged or under another key",
         OLD_NUMBER => "this number or a later one was accepted before",
-        _ => panic!("no refusal of a record"),
+        BAD_LENGTH => "a body has 4 to 256 bytes, in steps of 4",
+        BAD_WORD => "a word of the body or a value of the mark is not allowed",
+        MISSING_KIND => "the body lacks the seconds or their fraction",
+        _ => panic!("no refusal of a record or a body"),
     }
 }
 
@@ -231,6 +241,122 @@ fn wrongly_tagged(keys: &[u8], link: u32, sequence: u32) -> [(&'static str, Vec<
         ("KE and KM are exchanged", exchanged),
         ("an empty message, and K2 is used for its tag", retagged(&empty, &by_k2)),
     ]
+}
+
+// ---- bodies
+
+/// Prints [body] groups; it has the number of the last one.
+struct Bodies(usize);
+
+impl Bodies {
+    fn put(&mut self, remark: &str, words: &[u32]) {
+        let body = body::bytes(words);
+        let mark = body::mark_of(&body).expect(remark);
+        self.0 += 1;
+        begin("body", self.0, remark);
+        field("body", Hex(&body));
+        field("seconds", mark.seconds);
+        field("fraction", mark.fraction);
+        field("offset", mark.offset.map_or("none".to_string(), |offset| offset.to_string()));
+        fields(&[("values", &mark.values()), ("written", &body::bytes(&mark.words()))]);
+    }
+}
+
+fn bodies(random: &mut Random) {
+    const SECONDS: u64 = body::SECONDS_END - 1;
+    const FRACTION: u32 = body::FRACTION_END - 1;
+    let mut bodies = Bodies(0);
+    let remark = "2026-03-02 14:05:09.250 +01:00, with seconds counted from 1970";
+    bodies.put(remark, &TIME_MARK_WORDS);
+    for (remark, seconds, fraction, offset) in [
+        ("zeros, no offset", 0, 0, None),
+        ("zeros, and an offset of 0", 0, 0, Some(0)),
+        ("small numbers", 1, 2, Some(3)),
+        ("all bits of the low half of the seconds", 268_435_455, 0, None),
+        ("one second more", 268_435_456, 0, None),
+        ("seconds of 32 bits, all 1, and half a second", 4_294_967_295, 134_217_728, None),
+        ("one second more", 4_294_967_296, 134_217_728, None),
+        ("the highest seconds and fraction", SECONDS, FRACTION, None),
+        ("all values the highest", SECONDS, FRACTION, Some(840)),
+        ("all values the lowest", 0, 0, Some(-720)),
+        ("all bits 1, so an offset of -1", SECONDS, FRACTION, Some(-1)),
+    ] {
+        bodies.put(remark, &Mark { seconds, fraction, offset }.words());
+    }
+    for has_offset in [false, true] {
+        bodies.put("random", &Mark::random(random, has_offset).words());
+    }
+
+    let [high, low, fraction, offset] = TIME_MARK_WORDS;
+    bodies.put("the words of [body 1], the last first", &[offset, fraction, low, high]);
+    bodies.put("in another order and without the offset", &[low, fraction, high]);
+    let (zeros, ones) = (0x5000_0000, 0xffff_ffff);
+    bodies.put("a skipped word first and last", &[zeros, high, low, fraction, offset, ones]);
+    bodies.put("the same skipped word twice", &[high, zeros, low, zeros, fraction]);
+    let skipped: Vec<u32> = body::SKIPPED.map(|kind| body::random_word(random, kind)).collect();
+    let between = [&[fraction, high], &skipped[..], &[low]].concat();
+    bodies.put("a word of each kind that is skipped", &between);
+    let mut longest: Vec<u32> = (0..60).map(|_| body::skipped_word(random)).collect();
+    longest.extend(TIME_MARK_WORDS);
+    bodies.put("256 bytes, the words of [body 1] last", &longest);
+}
+
+// ---- bodies that are refused
+
+/// Prints [refused_body] groups; it has the number of the last one.
+struct RefusedBodies(usize);
+
+impl RefusedBodies {
+    fn put(&mut self, remark: &str, body: &[u8], answer: u32) {
+        assert_eq!(body::mark_of(body).err(), Some(answer), "{remark}");
+        self.0 += 1;
+        begin("refused_body", self.0, remark);
+        field("body", Hex(body));
+        field("answer", answer);
+        field("words", words(answer));
+    }
+}
+
+fn refused_bodies() {
+    let mut refused = RefusedBodies(0);
+    let [high, low, fraction, offset] = TIME_MARK_WORDS;
+    let good = body::bytes(&TIME_MARK_WORDS);
+    let mut extended = good.clone();
+    extended.resize(260, 0x55);
+    for (remark, body) in [
+        ("no bytes", &[][..]),
+        ("the first 3 bytes of a good body", &good[..3]),
+        ("a good body without its last byte", &good[..15]),
+        ("a good body and 241 bytes more", &extended[..257]),
+        ("a good body and 61 skipped words", &extended),
+        ("three bytes of zeros", &[0; 3]),
+    ] {
+        refused.put(remark, body, BAD_LENGTH);
+    }
+    for (remark, words) in [
+        ("a word of zeros", &[0][..]),
+        ("kind 0 behind a good body", &[high, low, fraction, offset, 0x0fff_ffff]),
+        ("kind 1 twice, with one field", &[high, low, high, fraction]),
+        ("kind 2 twice, with two fields", &[high, low, low + 1, fraction]),
+        ("kind 3 twice, a skipped word between", &[high, low, fraction, 0x5000_0000, fraction]),
+        ("kind 4 twice", &[high, low, fraction, offset, offset]),
+        ("an offset of 841", &[high, low, fraction, 0x4000_0349]),
+        ("an offset of -721", &[high, low, fraction, 0x4fff_fd2f]),
+        ("the field of offset 60 with its highest bit 1", &[high, low, fraction, 0x4800_003c]),
+        ("kind 4 twice, and neither 2 nor 3", &[offset, high, offset]),
+        ("an offset of 841 alone", &[0x4000_0349]),
+    ] {
+        refused.put(remark, &body::bytes(words), BAD_WORD);
+    }
+    for (remark, words) in [
+        ("no kind 1", &[low, fraction, offset][..]),
+        ("no kind 2", &[high, fraction, offset]),
+        ("no kind 3", &[high, low, offset]),
+        ("the offset alone", &[offset]),
+        ("skipped words alone", &[0x5000_0000, 0xffff_ffff, 0x5000_0000]),
+    ] {
+        refused.put(remark, &body::bytes(words), MISSING_KIND);
+    }
 }
 
 // ---- sealing on shares

@@ -1,13 +1,17 @@
 //! Reads a file of groups in the form that the head of `docs/vectors.txt` describes.
 
+use crate::body::Mark;
 use crate::cipher::Block;
 use crate::hex;
+use std::str::FromStr;
 
 /// The kinds of groups, each with its fields. A [shared] group has lanes besides.
-const KINDS: [(&str, &str); 4] = [
+const KINDS: [(&str, &str); 6] = [
     ("block", "key plaintext ciphertext"),
     ("record", "ke km link sequence message counter_block key_stream l k1 k2 tag record"),
     ("refused", "ke km link last record answer words"),
+    ("body", "body seconds fraction offset values written"),
+    ("refused_body", "body answer words"),
     (
         "shared",
         "ke_0 ke_1 ke_2 km_0 km_1 km_2 link last message seed tape_first tape_last tape_count record \
@@ -56,8 +60,9 @@ fn lane_of(name: &str) -> Option<[u32; 3]> {
     numbers?.try_into().ok()
 }
 
-fn decimal(digits: &str) -> Option<u32> {
-    digits.parse().ok().filter(|number: &u32| number.to_string() == digits)
+/// A number that prints as these digits.
+fn decimal<N: FromStr + ToString>(digits: &str) -> Option<N> {
+    digits.parse().ok().filter(|number: &N| number.to_string() == digits)
 }
 
 impl Group {
@@ -98,7 +103,22 @@ impl Group {
     }
 
     pub fn number(&self, name: &str) -> Result<u32, String> {
+        self.any_number(name)
+    }
+
+    /// A number of whatever range its type has.
+    fn any_number<N: FromStr + ToString>(&self, name: &str) -> Result<N, String> {
         decimal(self.text(name)?).ok_or(self.flaw(&format!("'{name}' is not a number")))
+    }
+
+    /// The mark of a body: its seconds, its fraction, its offset or `none`.
+    pub fn mark(&self) -> Result<Mark, String> {
+        let offset = match self.text("offset")? {
+            "none" => None,
+            _ => Some(self.any_number("offset")?),
+        };
+        let (seconds, fraction) = (self.any_number("seconds")?, self.number("fraction")?);
+        Ok(Mark { seconds, fraction, offset })
     }
 
     /// Call, round, lane and bytes of each of its lanes.

@@ -2,6 +2,7 @@
 //! are those of the file.
 
 use crate::blocks::hold_both_ways;
+use crate::body::{BAD_LENGTH, BAD_WORD, MISSING_KIND, VALUES};
 use crate::groups::{self, Group};
 use crate::keying::{Key, Side, RECEIVING, SENDING};
 use crate::lanes::Report;
@@ -10,9 +11,11 @@ use crate::links::{self, BAD_RECORD, LANE, OLD_NUMBER, OTHER_LINK, SHARES, WRONG
 use crate::modes;
 use crate::opening::Open;
 use crate::plain::SealPlain;
+use crate::reading::ReadBody;
 use crate::sealing::Seal;
 use crate::shares;
 use crate::tally::Tally;
+use crate::writing::WriteBody;
 use std::ffi::{c_char, CStr};
 
 extern "C" {
@@ -20,15 +23,24 @@ extern "C" {
     fn words_of_answer(answer: u32) -> *const c_char;
 }
 
-/// What the file has to have: records with messages of these lengths, and these refusals.
+/// What the file has to have: records with messages of these lengths, bodies with these offsets,
+/// and these refusals.
 pub const LENGTHS: [usize; 10] = [0, 1, 15, 16, 17, 31, 32, 33, 255, 256];
+const OFFSETS: [&str; 5] = ["none", "-720", "-1", "0", "840"];
 const REFUSALS: [u32; 4] = [BAD_RECORD, OTHER_LINK, OLD_NUMBER, WRONG_TAG];
+const BODY_REFUSALS: [u32; 3] = [BAD_LENGTH, BAD_WORD, MISSING_KIND];
 
 type Checks = fn(&mut Tally, &Group) -> Result<(), String>;
 
 /// How the groups of each kind are held.
-const KINDS: [(&str, Checks); 4] =
-    [("block", block), ("record", record), ("refused", refused), ("shared", shared)];
+const KINDS: [(&str, Checks); 6] = [
+    ("block", block),
+    ("record", record),
+    ("refused", refused),
+    ("body", body),
+    ("refused_body", refused_body),
+    ("shared", shared),
+];
 
 /// Holds the C calls to every group of a file, and the file to what it has to have.
 pub fn hold(tally: &mut Tally, text: &str) {
@@ -63,6 +75,16 @@ fn enough(tally: &mut Tally, groups: &[Group]) {
     for answer in REFUSALS {
         let found = has("refused", &|group| group.number("answer") == Ok(answer));
         tally.same_flag(format_args!("a record refused with {answer}"), found, true);
+    }
+    for offset in OFFSETS {
+        let found = has("body", &|group| group.text("offset") == Ok(offset));
+        tally.same_flag(format_args!("a body with the offset {offset}"), found, true);
+    }
+    let found = has("body", &|group| group.text("body") != group.text("written"));
+    tally.same_flag(format_args!("a body that no writer makes"), found, true);
+    for answer in BODY_REFUSALS {
+        let found = has("refused_body", &|group| group.number("answer") == Ok(answer));
+        tally.same_flag(format_args!("a body refused with {answer}"), found, true);
     }
     let found = has("shared", &|group| group.lanes().is_ok_and(|lanes| !lanes.is_empty()));
     tally.same_flag(format_args!("a sealing on shares with a lane"), found, true);
@@ -147,11 +169,40 @@ fn refused(tally: &mut Tally, group: &Group) -> Result<(), String> {
     let answer = group.number("answer")?;
     let call = Open { link, record, message };
     hold_as(tally, &call, answer, &call, group.number);
-    // The call returns a string that lasts.
-    let words = unsafe { CStr::from_ptr(words_of_answer(answer)) };
-    tally.same(format_args!("words of {answer}"), words.to_bytes(), group.text("words")?.as_bytes());
+    hold_words(tally, answer, group.text("words")?);
     let is_refusal = REFUSALS.contains(&answer);
     tally.same_flag(format_args!("{answer} is a refusal of a record"), is_refusal, true);
+    Ok(())
+}
+
+fn hold_words(tally: &mut Tally, answer: u32, expected: &str) {
+    // The call returns a string that lasts.
+    let words = unsafe { CStr::from_ptr(words_of_answer(answer)) };
+    tally.same(format_args!("words of {answer}"), words.to_bytes(), expected.as_bytes());
+}
+
+// ---- bodies
+
+/// The body is read as the values, which are written as `written`, which is read as the values.
+fn body(tally: &mut Tally, group: &Group) -> Result<(), String> {
+    let (values, written) = (group.bytes("values")?, group.bytes("written")?);
+    for body in [group.bytes("body")?, written.clone()] {
+        let before = ReadBody { body, values: room(VALUES) };
+        let after = ReadBody { values: values.clone(), ..before.clone() };
+        hold_as(tally, &before, 0, &after, group.number);
+    }
+    let before = WriteBody::of(&group.mark()?, room(written.len()));
+    hold_as(tally, &before, 0, &WriteBody { body: written, ..before.clone() }, group.number);
+    Ok(())
+}
+
+fn refused_body(tally: &mut Tally, group: &Group) -> Result<(), String> {
+    let answer = group.number("answer")?;
+    let call = ReadBody { body: group.bytes("body")?, values: room(VALUES) };
+    hold_as(tally, &call, answer, &call, group.number);
+    hold_words(tally, answer, group.text("words")?);
+    let is_refusal = BODY_REFUSALS.contains(&answer);
+    tally.same_flag(format_args!("{answer} is a refusal of a body"), is_refusal, true);
     Ok(())
 }
 

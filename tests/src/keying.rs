@@ -52,8 +52,8 @@ impl Call for Key {
         vec![("link", &mut self.link), ("keys", &mut self.keys)]
     }
 
-    fn numbers(&self) -> Vec<(&'static str, u32)> {
-        vec![("number", self.number)]
+    fn numbers(&self) -> Vec<(&'static str, i128)> {
+        vec![("number", self.number.into())]
     }
 
     unsafe fn make(&self, lent: &[Lent]) -> u32 {

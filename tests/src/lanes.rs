@@ -52,8 +52,8 @@ impl Call for Report {
         ]
     }
 
-    fn numbers(&self) -> Vec<(&'static str, u32)> {
-        vec![("call", self.call), ("round", self.round), ("lane", self.lane)]
+    fn numbers(&self) -> Vec<(&'static str, i128)> {
+        vec![("call", self.call.into()), ("round", self.round.into()), ("lane", self.lane.into())]
     }
 
     unsafe fn make(&self, lent: &[Lent]) -> u32 {

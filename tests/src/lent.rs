@@ -20,7 +20,7 @@ pub trait Call: Clone {
     fn slices(&mut self) -> Vec<(&'static str, &mut Vec<u8>)>;
 
     /// The numbers, each with its name.
-    fn numbers(&self) -> Vec<(&'static str, u32)> {
+    fn numbers(&self) -> Vec<(&'static str, i128)> {
         Vec::new()
     }
 

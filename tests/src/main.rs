@@ -7,7 +7,7 @@
 //!     tests decrypt KEY BLOCK     the plaintext
 //!     tests cases COUNT [SEED]    lines of key, block, ciphertext: the published vectors, then
 //!                                 COUNT random ones by the tests' own cipher
-//!     tests vectors | records | lanes | rack
+//!     tests vectors | records | lanes | rack | marks
 //!                                 what the program of this name has to print
 //!     tests document              what has to stand in docs/vectors.txt, by the tests' own code
 //!     tests held FILE             holds the C calls to the vectors of such a file; ends as the checks
@@ -18,6 +18,7 @@
 mod aes;
 mod astray;
 mod blocks;
+mod body;
 mod cipher;
 mod definition;
 mod document;
@@ -33,12 +34,14 @@ mod modes;
 mod opening;
 mod plain;
 mod random;
+mod reading;
 mod runs;
 mod samples;
 mod sealing;
 mod shares;
 mod tally;
 mod vectors;
+mod writing;
 
 use hex::Hex;
 use random::Random;
@@ -91,6 +94,27 @@ const GROUPS: &[(&str, fn(&mut Tally))] = &[
     ("report, lengths", lanes::lengths),
     ("report, refusals alone and together", lanes::refusals),
     ("report, one tape", lanes::one_tape),
+    ("bodies read, lengths", reading::lengths),
+    ("bodies read, each kind at each place", reading::every_kind),
+    ("bodies read, every order", reading::every_order),
+    ("bodies read, repeated kinds", reading::repeated),
+    ("bodies read, missing kinds", reading::missing),
+    ("bodies read, offsets", reading::offsets),
+    ("bodies read, fields", reading::fields),
+    ("bodies read, single bits", reading::single_bits),
+    ("bodies read, outputs", reading::outputs),
+    ("bodies read, refusals alone and together", reading::refusals),
+    ("bodies read, random words", reading::random_words),
+    ("bodies read, random bodies", reading::random_bodies),
+    ("bodies written, values", writing::values),
+    ("bodies written, offsets", writing::offsets),
+    ("bodies written, every offset in range", writing::every_offset),
+    ("bodies written, single bits", writing::single_bits),
+    ("bodies written, outputs", writing::outputs),
+    ("bodies written, refusals alone and together", writing::refusals),
+    ("bodies written, random", writing::random),
+    ("bodies written, then read", writing::read_back),
+    ("bodies read, then written", writing::only_body),
     ("all calls, mixed, over kept links", runs::mixed),
 ];
 
@@ -100,6 +124,7 @@ const PROGRAMS: &[(&str, fn())] = &[
     ("records", samples::records),
     ("lanes", samples::lanes),
     ("rack", samples::rack),
+    ("marks", samples::marks),
 ];
 
 fn main() -> ExitCode {
@@ -110,7 +135,7 @@ fn main() -> ExitCode {
         None => {
             eprintln!("usage: tests [--self-test] [SEED]");
             eprintln!("       tests encrypt KEY BLOCK | decrypt KEY BLOCK | cases COUNT [SEED]");
-            eprintln!("       tests vectors | records | lanes | rack | read AT");
+            eprintln!("       tests vectors | records | lanes | rack | marks | read AT");
             eprintln!("       tests document | [--self-test] held FILE");
             ExitCode::from(2)
         }

@@ -37,8 +37,8 @@ impl Call for SealPlain {
         vec![("keys", &mut self.keys), ("message", &mut self.message), ("record", &mut self.record)]
     }
 
-    fn numbers(&self) -> Vec<(&'static str, u32)> {
-        vec![("number", self.number), ("sequence", self.sequence)]
+    fn numbers(&self) -> Vec<(&'static str, i128)> {
+        vec![("number", self.number.into()), ("sequence", self.sequence.into())]
     }
 
     unsafe fn make(&self, lent: &[Lent]) -> u32 {

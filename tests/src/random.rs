@@ -30,6 +30,13 @@ impl Random {
         from[self.below(from.len())]
     }
 
+    /// Puts items into a random order.
+    pub fn shuffle<T>(&mut self, items: &mut [T]) {
+        for i in 1..items.len() {
+            items.swap(i, self.below(i + 1));
+        }
+    }
+
     pub fn block(&mut self) -> [u8; 16] {
         self.bytes(16).try_into().unwrap()
     }

@@ -1,5 +1,6 @@
 //! Long runs of all calls in turn, over links that are kept from call to call.
 
+use crate::body::{Mark, VALUES};
 use crate::keying::{Key, RECEIVING, SENDING};
 use crate::lanes::Report;
 use crate::lent::{hold, Call};
@@ -7,9 +8,11 @@ use crate::links::{self, ADDED, LONGEST, RECEIVER, SENDER, SENDER_KEYS, SHARES};
 use crate::opening::Open;
 use crate::plain::SealPlain;
 use crate::random::Random;
+use crate::reading::ReadBody;
 use crate::sealing::Seal;
 use crate::shares;
 use crate::tally::Tally;
+use crate::writing::WriteBody;
 
 /// Calls made in all.
 const CALLS: usize = 25_000;
@@ -83,6 +86,32 @@ fn accepted<C: Call>(tally: &mut Tally, random: &mut Random, call: &C) -> Option
     (done.answer == 0).then_some(done.left)
 }
 
+/// Writes the body of a random mark.
+fn write(tally: &mut Tally, random: &mut Random) -> Option<Vec<u8>> {
+    let has_offset = random.below(2) == 0;
+    let mark = Mark::random(random, has_offset);
+    let length = 4 * mark.words().len();
+    let room = room(random, length);
+    let call = WriteBody::of(&mark, random.bytes(room));
+    Some(accepted(tally, random, &call)?.body[..length].to_vec())
+}
+
+/// A message to seal: now and then a body, else random bytes.
+fn message(tally: &mut Tally, random: &mut Random) -> Vec<u8> {
+    let body = if random.below(3) == 0 { write(tally, random) } else { None };
+    body.unwrap_or_else(|| {
+        let length = length(random);
+        random.bytes(length)
+    })
+}
+
+/// Reads an opened message as a body, which it may not be.
+fn read(tally: &mut Tally, random: &mut Random, message: &[u8]) {
+    let values = room(random, VALUES);
+    let call = ReadBody { body: message.to_vec(), values: random.bytes(values) };
+    accepted(tally, random, &call);
+}
+
 /// Keys both links anew, each now and then with material of a wrong length.
 fn key(tally: &mut Tally, random: &mut Random, rack: &mut Rack) {
     let fresh_keys = random.bytes(SENDER_KEYS);
@@ -103,13 +132,14 @@ fn key(tally: &mut Tally, random: &mut Random, rack: &mut Rack) {
 
 /// Seals by shares. A plain sealing under the same number has to give the same record.
 fn seal(tally: &mut Tally, random: &mut Random, rack: &mut Rack) {
-    let length = length(random);
+    let message = message(tally, random);
+    let length = message.len();
     let tape = room(random, shares::tape_need(length));
     let record = room(random, length + ADDED);
     let shares = room(random, SHARES);
     let call = Seal {
         link: rack.sender.clone(),
-        message: random.bytes(length),
+        message,
         tape: random.bytes(tape),
         record: random.bytes(record),
         shares: random.bytes(shares),
@@ -133,14 +163,15 @@ fn seal(tally: &mut Tally, random: &mut Random, rack: &mut Rack) {
 
 /// Seals plainly, with a number of its own near the sender's last.
 fn seal_plain(tally: &mut Tally, random: &mut Random, rack: &mut Rack) {
-    let length = length(random);
+    let message = message(tally, random);
+    let length = message.len();
     let last = u32::from_be_bytes(rack.sender[5..9].try_into().unwrap());
     let record = room(random, length + ADDED);
     let mut call = SealPlain {
         keys: links::joined_keys(&rack.keys),
         number: rack.number,
         sequence: last.wrapping_add(random.below(5) as u32).wrapping_sub(2),
-        message: random.bytes(length),
+        message,
         record: random.bytes(record),
     };
     disturb(random, &mut call.keys);
@@ -149,7 +180,8 @@ fn seal_plain(tally: &mut Tally, random: &mut Random, rack: &mut Rack) {
     }
 }
 
-/// Opens one of the records on the way, most often the newest, whole or damaged.
+/// Opens one of the records on the way, most often the newest, whole or damaged. What it gives is
+/// read as a body.
 fn open(tally: &mut Tally, random: &mut Random, rack: &mut Rack) {
     let mut record = match rack.records.len() {
         0 => random.bytes(60),
@@ -161,10 +193,12 @@ fn open(tally: &mut Tally, random: &mut Random, rack: &mut Rack) {
         let i = random.below(record.len());
         record[i] ^= 1 << random.below(8);
     }
-    let message = room(random, record.len().saturating_sub(ADDED));
+    let length = record.len().saturating_sub(ADDED);
+    let message = room(random, length);
     let call = Open { link: rack.receiver.clone(), record, message: random.bytes(message) };
     if let Some(left) = accepted(tally, random, &call) {
         rack.receiver = left.link;
+        read(tally, random, &left.message[..length]);
     }
 }
 

@@ -1,6 +1,7 @@
-//! What the programs `vectors`, `records`, `lanes` and `rack` have to print, by the code of these
-//! tests.
+//! What the programs `vectors`, `records`, `lanes`, `rack` and `marks` have to print, by the code
+//! of these tests.
 
+use crate::body::{self, Mark};
 use crate::cipher;
 use crate::hex::Hex;
 use crate::links;
@@ -178,4 +179,63 @@ pub fn rack() {
     ] {
         turn(&mut link, message, tape, room);
     }
+}
+
+// ---- bodies of marks
+
+/// What stands in an output before a call.
+const BEFORE: u8 = 0xee;
+
+fn print_written(seconds: u64, fraction: u32, offset: Option<i32>, room: usize) {
+    let mut body = vec![BEFORE; room];
+    let number = body::write(&Mark { seconds, fraction, offset }, &mut body);
+    println!("write {number} {}", digits(&body));
+}
+
+fn print_read(body: &[u8], room: usize) {
+    let mut values = vec![BEFORE; room];
+    let number = body::read(body, &mut values);
+    println!("read {number} {}", digits(&values));
+}
+
+pub fn marks() {
+    for (seconds, fraction, offset, room) in [
+        (0, 0, None, 16),
+        (1_772_456_709, 67_108_864, Some(60), 16),
+        (72_057_594_037_927_935, 268_435_455, Some(840), 16),
+        (268_435_456, 1, Some(-720), 16),
+        (268_435_455, 0, Some(-1), 16),
+        (1, 2, Some(0), 16),
+        (1, 2, None, 12),
+        (72_057_594_037_927_936, 0, None, 16),
+        (0, 268_435_456, None, 16),
+        (0, 0, Some(841), 16),
+        (0, 0, Some(-721), 0),
+        (0, 0, None, 11),
+        (0, 0, Some(0), 15),
+    ] {
+        print_written(seconds, fraction, offset, room);
+    }
+
+    let needed = [0x1000_0001, 0x2000_0002, 0x3000_0003];
+    let with_offset = |word: u32| body::bytes(&[&needed[..], &[word]].concat());
+    for body in [
+        body::bytes(&needed),
+        body::bytes(&[0x4fff_ffff, 0x3000_0003, 0x2000_0002, 0x1000_0001]),
+        body::bytes(&[0x5000_0000, 0x1000_0001, 0xf000_0000, 0x2000_0002, 0x3000_0003]),
+        with_offset(0x4000_0348),
+        with_offset(0x4fff_fd30),
+        Vec::new(),
+        vec![0x10, 0, 0],
+        vec![0; 260],
+        vec![0; 4],
+        body::bytes(&[0x1000_0001, 0x2000_0002, 0x2000_0002, 0x3000_0003]),
+        with_offset(0x4000_0349),
+        with_offset(0x4fff_fd2f),
+        body::bytes(&needed[..2]),
+        body::bytes(&[0x5000_0000]),
+    ] {
+        print_read(&body, body::VALUES);
+    }
+    print_read(&body::bytes(&needed), 16);
 }

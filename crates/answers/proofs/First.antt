@@ -1,8 +1,9 @@
 -- A refusal's number is that of the first cause that applies, and of no other; an answer accepts where none applies.
 -- Assumes nothing.
-use Rattle.prelude.proofs.{_≡_, refl, sym, ap, _∙_, subst, _↔_, Bool, true, false, not, cond, List, [], _∷_, ℕ, zero, suc, _≤_, _<_, arith}
-use Rattle.prelude.proofs.{T, eqb, ltb, take, drop, eq-eqb, ne-eqb, lt-ltb, le-ltb, le-leb, lt-leb}
-use Rattle.answers.specs.Answer.{Answer, done, refused, Cause, _when_, first, numberOf, Accepts, ifDone, FirstOf, here, later, NoneOf}
+use Rattle.prelude.proofs.{_≡_, refl, sym, ap, _∙_, subst, _↔_, Bool, true, false, not, cond, List, [], _∷_, _++_, ℕ, zero, suc, _≤_, _<_}
+use Rattle.prelude.proofs.{arith, T, eqb, ltb, take, drop, eq-eqb, ne-eqb, lt-ltb, le-ltb, le-leb, lt-leb}
+use Rattle.answers.specs.Answer.{Answer, done, refused, Cause, _when_, first, numberOf, valuesOf, Accepts, ifDone}
+use Rattle.answers.specs.Answer.{FirstOf, here, later, NoneOf}
 
 refused-first : (n : ℕ) (cs : List Cause) (a : Answer) → FirstOf n cs → first cs a ≡ refused n
 refused-first n cs a (here {b = true} t) = refl
@@ -48,6 +49,20 @@ pub none-both : (k : ℕ) (cs : List Cause) → NoneOf (take k cs) → NoneOf (d
 none-both zero cs h l = l
 none-both (suc k) [] h l = tt
 none-both (suc k) ((n when b) ∷ cs) h l = (h .0, none-both k cs (h .1) l)
+
+-- ---- causes behind others
+
+pub refused-before : (n : ℕ) (cs ds : List Cause) (vs : List ℕ) (a : Answer) → first cs (done vs) ≡ refused n
+    → first (cs ++ ds) a ≡ refused n
+refused-before n [] ds vs a e = absurd (let z : _≡_ {A = ℕ} 0 1 = cc in omega arith)
+refused-before n ((m when true) ∷ cs) ds vs a e = e
+refused-before n ((m when false) ∷ cs) ds vs a e = refused-before n cs ds vs a e
+
+pub done-before : (cs ds : List Cause) (vs ws : List ℕ) (a : Answer) → first cs (done vs) ≡ done ws
+    → (vs ≡ ws) × (first (cs ++ ds) a ≡ first ds a)
+done-before [] ds vs ws a e = (ap valuesOf e, refl)
+done-before ((m when true) ∷ cs) ds vs ws a e = absurd (let z : _≡_ {A = ℕ} 0 1 = cc in omega arith)
+done-before ((m when false) ∷ cs) ds vs ws a e = done-before cs ds vs ws a e
 
 -- ---- an answer's number tells whether the work was done
 

@@ -169,6 +169,12 @@ all-more i v f o out e h d = ap (λ (n : ℕ). set out n v) (sym (zero-add i)) �
 pub all-done : (i n : ℕ) (f : ℕ → ℕ) (o out : List ℕ) → out ≡ put 0 (tab i f) o → i ≡ n → length o ≡ n → out ≡ tab n f
 all-done i n f o out e d l = fill-done 0 i n f o out e d ∙ put-whole (tab n f) o (tab-length n f ∙ sym l)
 
+-- the first element apart
+pub tab-cons : (n : ℕ) (f : ℕ → ℕ) → tab (suc n) f ≡ f 0 ∷ tab n (λ (i : ℕ). f (suc i))
+unfolding tab
+tab-cons zero f = refl
+tab-cons (suc n) f = ap (λ (l : List ℕ). l ++ (f (suc n) ∷ [])) (tab-cons n f)
+
 -- the elements of a part, by their places
 pub tab-part : (n at : ℕ) (s : List ℕ) → at + n ≤ length s → tab n (λ i. getD s (at + i) 0) ≡ take n (drop at s)
 unfolding tab
@@ -184,3 +190,10 @@ tab-list s = ap (tab (length s)) (λ j i. getD s (sym (zero-add i) j) 0) ∙ tab
 
 pub put-one : (at b : ℕ) (o : List ℕ) → at < length o → set o at b ≡ put at (b ∷ []) o
 put-one at b o h = ap (λ (z : List ℕ). set z at b) (sym (put-none at o)) ∙ put-set at [] o b at (sym (add-zero at)) h
+
+-- two lists of one length, and what stands behind them
+pub parted : (a b c d : List ℕ) → length a ≡ length b → a ++ c ≡ b ++ d → (a ≡ b) × (c ≡ d)
+parted a b c d l e = (
+  sym (take-at a c (length a) refl) ∙ ap (take (length a)) e ∙ take-at b d (length a) (sym l),
+  sym (drop-at a c (length a) refl) ∙ ap (drop (length a)) e ∙ drop-at b d (length a) (sym l),
+)

@@ -1,12 +1,16 @@
--- The test whether two lists are the same. Assumes nothing.
-use Rattle.prelude.proofs.{_≡_, refl, sym, ap, ap₂, _∙_, Bool, true, false, _&&_, and-true, and-false, and-assoc, false≢true, List, [], _∷_}
-use Rattle.prelude.proofs.{_++_, ℕ, _+_, _<_, zero-add, arith, eqb, length, take, getD, length-take-le, eqb-true, eq-eqb, ne-eqb}
+-- Tests joined, and the test whether two lists are the same. Assumes nothing.
+use Rattle.prelude.proofs.{_≡_, refl, sym, ap, ap₂, _∙_, Bool, true, false, _&&_, _||_, and-true, and-false, and-assoc, false≢true, List}
+use Rattle.prelude.proofs.{[], _∷_, _++_, ℕ, _+_, _<_, zero-add, arith, eqb, length, take, getD, length-take-le, eqb-true, eq-eqb, ne-eqb}
 use Rattle.blocks.specs.Bytes.{sameBytes, part}
 use Rattle.blocks.proofs.Parts.{part-length, part-more}
 
 pub both-true : (a b : Bool) → (a && b) ≡ true → (a ≡ true) × (b ≡ true)
 both-true true b e = (refl, e)
 both-true false b e = absurd (false≢true e)
+
+pub neither-true : (a b : Bool) → (a || b) ≡ false → (a ≡ false) × (b ≡ false)
+neither-true true b e = absurd (false≢true (sym e))
+neither-true false b e = (refl, e)
 
 pub same-true : (a b : List ℕ) → sameBytes a b ≡ true → a ≡ b
 same-true [] [] e = refl

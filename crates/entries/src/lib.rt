@@ -1,5 +1,8 @@
 // Every entry, called on any slices, numbers and links. No function here has a `requires`, so an entry with one that some
 // argument breaks is refused here.
+use body::Mark;
+use body::ReadAnswer;
+use body::WriteAnswer;
 use engines::BlockAnswer;
 use engines::Cipher;
 use links::Sender;
@@ -72,6 +75,24 @@ pub fn open(link: Receiver, sealed: &[u8], out: &mut [u8]) -> Opening {
     opening::Receiver::open(link, sealed, out)
 }
 
+// ---- bodies
+
+pub fn read(body: &[u8]) -> ReadAnswer {
+    reading::read(body)
+}
+
+pub fn write(mark: Mark, out: &mut [u8]) -> WriteAnswer {
+    writing::write(mark, out)
+}
+
+pub fn read_values(body: &[u8], out: &mut [u8]) -> u32 {
+    reading::read_values(body, out)
+}
+
+pub fn write_values(seconds: u64, fraction: u32, given: u32, z: i32, out: &mut [u8]) -> u32 {
+    writing::write_values(seconds, fraction, given, z, out)
+}
+
 // ---- C calls
 
 pub fn c_encrypt_table(key: &[u8], input: &[u8], output: &mut [u8]) -> u32 {
@@ -132,4 +153,12 @@ pub fn c_seal_plain(
 
 pub fn c_open(link: &mut [u8], sealed: &[u8], out: &mut [u8]) -> u32 {
     rasppuce::rasppuce_open(link, sealed, out)
+}
+
+pub fn c_read_body(body: &[u8], values: &mut [u8]) -> u32 {
+    rasppuce::rasppuce_read_body(body, values)
+}
+
+pub fn c_write_body(seconds: u64, fraction: u32, given: u32, offset: i32, out: &mut [u8]) -> u32 {
+    rasppuce::rasppuce_write_body(seconds, fraction, given, offset, out)
 }

@@ -5,6 +5,8 @@ ghost use lib.ListN.{length};
 ghost use Rattle.answers.specs.Answer.{numberOf};
 ghost use Rattle.baksheesh.specs.Baksheesh.{encrypt, decrypt};
 ghost use Rattle.engines.specs.Block.{blockAnswer, blockOutput};
+ghost use Rattle.body.specs.Mark.{markWith};
+ghost use Rattle.body.specs.Entry.{valuesAnswer, valuesOutput, writeAnswer, writeOutput};
 ghost use Rattle.links.specs.Record.{standard};
 ghost use Rattle.plain.specs.Entry.{plainAnswer, plainOutput};
 ghost use Rattle.calls.specs.Entry.{reportAnswer, reportOutput};
@@ -137,4 +139,30 @@ pub extern "C" fn rasppuce_open(link: &mut [u8], sealed: &[u8], out: &mut [u8]) 
     ensures { λ r. ⌜ now (out .exit) ≡ openedOutput (now (link .entry)) (now (sealed .entry)) (now (out .entry)) ⌝ }
 {
     receiving::open(link, sealed, out)
+}
+
+// ---- the body of a mark
+
+// Reads a body: the values of its mark.
+#[no_mangle]
+pub extern "C" fn rasppuce_read_body(body: &[u8], values: &mut [u8]) -> u32
+    ensures { λ r. ⌜ r ≡ numberOf (valuesAnswer (now (body .entry)) (length (now (values .entry)))) ⌝ }
+    ensures { λ r. ⌜ now (values .exit) ≡ valuesOutput (now (body .entry)) (now (values .entry)) ⌝ }
+{
+    reading::read_values(body, values)
+}
+
+// Writes the body of a mark; where `given` is 0 it has no offset.
+#[no_mangle]
+pub extern "C" fn rasppuce_write_body(
+    seconds: u64,
+    fraction: u32,
+    given: u32,
+    offset: i32,
+    out: &mut [u8],
+) -> u32
+    ensures { λ r. ⌜ r ≡ numberOf (writeAnswer (markWith seconds fraction given offset) (length (now (out .entry)))) ⌝ }
+    ensures { λ r. ⌜ now (out .exit) ≡ writeOutput (markWith seconds fraction given offset) (now (out .entry)) ⌝ }
+{
+    writing::write_values(seconds, fraction, given, offset, out)
 }

@@ -3,9 +3,12 @@ use mathlib.Core.Path.{_≡_}
 use mathlib.Core.List.{List, [], _∷_, _++_}
 use Prim.Native.Nat.{ℕ, _+_, _*_}
 use lib.Dec.{eqb}
+use lib.IntN.{pos, negsuc}
 use lib.ListN.{replicate}
 use Rattle.blocks.specs.Bytes.{zeros}
 use Rattle.blocks.specs.Bits.{blockOf}
+use Rattle.body.specs.Words.{words}
+use Rattle.body.specs.Mark.{markIn, written, values, markWith}
 use Rattle.baksheesh.specs.Baksheesh.{subCells, invSubCells, permBits, rotated}
 use Rattle.modes.specs.Cmac.{doubled}
 use Rattle.links.specs.Record.{standard, counterBlock, recordOf}
@@ -57,6 +60,13 @@ rows =
     -- counter block 6 and a record of the link number 0x01020304 and the sequence number 5
     ∷ (counterBlock 0x01020304 5 6 is (1 ∷ 2 ∷ 3 ∷ 4 ∷ 0 ∷ 0 ∷ 0 ∷ 0 ∷ 0 ∷ 0 ∷ 0 ∷ 5 ∷ 0 ∷ 0 ∷ 0 ∷ 6 ∷ []))
     ∷ (recordOf standard 0x01020304 5 (0xaa ∷ []) (replicate 16 0xbb) is (1 ∷ 2 ∷ 3 ∷ 4 ∷ 0 ∷ 0 ∷ 0 ∷ 5 ∷ 0xaa ∷ replicate 16 0xbb))
+    -- the body of 0x69a58b05 seconds and a quarter, an hour ahead; the one of 1 second, 720 minutes behind
+    ∷ (written (markWith 0x69a58b05 0x4000000 1 (pos 60))
+    is (0x10 ∷ 0 ∷ 0 ∷ 6 ∷ 0x29 ∷ 0xa5 ∷ 0x8b ∷ 5 ∷ 0x34 ∷ 0 ∷ 0 ∷ 0 ∷ 0x40 ∷ 0 ∷ 0 ∷ 0x3c ∷ []))
+    ∷ (written (markWith 1 0 1 (negsuc 719)) is (0x10 ∷ 0 ∷ 0 ∷ 0 ∷ 0x20 ∷ 0 ∷ 0 ∷ 1 ∷ 0x30 ∷ 0 ∷ 0 ∷ 0 ∷ 0x4f ∷ 0xff ∷ 0xfd ∷ 0x30 ∷ []))
+    -- what a body in another order, with a skipped word, says: 1 and 2 in the seconds, 3 in the fraction, a minute behind
+    ∷ (values (markIn (words (0x4f ∷ 0xff ∷ 0xff ∷ 0xff ∷ 0x30 ∷ 0 ∷ 0 ∷ 3 ∷ 0x50 ∷ 0 ∷ 0 ∷ 0 ∷ 0x20 ∷ 0 ∷ 0 ∷ 2 ∷ 0x10 ∷ 0 ∷ 0 ∷ 1 ∷ [])))
+    is (0 ∷ 0 ∷ 0 ∷ 0 ∷ 0x10 ∷ 0 ∷ 0 ∷ 2 ∷ 0 ∷ 0 ∷ 0 ∷ 3 ∷ 1 ∷ 0xff ∷ 0xff ∷ 0xff ∷ 0xff ∷ []))
     -- the tape need of a message of 0, 1, 16, 17 and 256 bytes
     ∷ ((tapeNeed 0 ∷ tapeNeed 1 ∷ tapeNeed 16 ∷ tapeNeed 17 ∷ tapeNeed 256 ∷ []) is (2304 ∷ 4544 ∷ 4544 ∷ 6784 ∷ 38144 ∷ []))
     ∷ []

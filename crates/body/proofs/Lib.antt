@@ -1,0 +1,9 @@
+pub mod Signed
+pub mod Words
+pub mod Answers
+pub mod Writing
+pub mod Order
+pub mod Values
+pub mod Written
+pub mod Only
+pub mod Total

@@ -1,0 +1,4 @@
+pub mod Signed
+pub mod Words
+pub mod Mark
+pub mod Entry
