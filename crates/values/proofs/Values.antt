@@ -1,53 +1,25 @@
--- The values hold: antt computes each row. Assumes nothing.
-use Rattle.prelude.proofs.{refl}
+-- The values hold: antt computes one test over all rows. Assumes nothing.
+use Rattle.prelude.proofs.{_≡_, refl, Bool, true, _&&_, List, [], _∷_}
 use Rattle.bits.specs.Bit.{bit}
-use Rattle.blocks.specs.Bytes.{_⊕_, zeros, tab, bigEndian, value}
+use Rattle.blocks.specs.Bytes.{_⊕_, zeros, sameBytes, tab, bigEndian, value}
 use Rattle.blocks.specs.Bits.{blockOf, bitAt, cells, rearranged, eachCell}
+use Rattle.blocks.proofs.Same.{both-true, same-true}
 use Rattle.baksheesh.specs.Baksheesh.{constant}
 use Rattle.modes.specs.Cmac.{doubled}
 use Rattle.links.specs.Record.{counterBlock, recordOf}
 use Rattle.masking.specs.Sbox.{sboxShare}
-use Rattle.values.specs.Values.{rows, Hold}
+use Rattle.values.specs.Values.{Row, _is_, rows, Hold}
+
+-- one test over all rows
+all-same : List Row → Bool
+all-same [] = true
+all-same ((a is b) ∷ rs) = sameBytes a b && all-same rs
+
+hold : (rs : List Row) → all-same rs ≡ true → Hold rs
+unfolding all-same
+hold [] e = tt
+hold ((a is b) ∷ rs) e = let both = both-true (sameBytes a b) (all-same rs) e in (same-true a b (both .0), hold rs (both .1))
 
 pub values-hold : Hold rows
-unfolding bit blockOf bitAt cells rearranged eachCell constant doubled sboxShare counterBlock recordOf bigEndian value tab _⊕_ zeros
-values-hold = (
-  refl,
-  (
-    refl,
-    (
-      refl,
-      (
-        refl,
-        (
-          refl,
-          (
-            refl,
-            (
-              refl,
-              (
-                refl,
-                (
-                  refl,
-                  (
-                    refl,
-                    (
-                      refl,
-                      (
-                        refl,
-                        (
-                          refl,
-                          (refl, (refl, (refl, (refl, (refl, tt))))),
-                        ),
-                      ),
-                    ),
-                  ),
-                ),
-              ),
-            ),
-          ),
-        ),
-      ),
-    ),
-  ),
-)
+unfolding all-same bit blockOf bitAt cells rearranged eachCell constant doubled sboxShare counterBlock recordOf bigEndian value tab _⊕_ zeros
+values-hold = hold rows refl
