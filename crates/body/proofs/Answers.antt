@@ -10,6 +10,10 @@ use Rattle.body.specs.declared.Mark.{Mark}
 
 -- ---- reading into an output
 
+pub values-read : (b : List ℕ) {vs : List ℕ} → done vs ≡ readAnswer b → values (markIn (words b)) ≡ vs
+unfolding readAnswer
+values-read b {vs} e = done-before (readCauses b) [] _ vs (done []) (sym e) .0
+
 module _ (b : List ℕ) (o : ℕ) where
   abbrev room : List Cause
   room = (4 when ltb o 17) ∷ []
@@ -19,10 +23,6 @@ module _ (b : List ℕ) (o : ℕ) where
   values-refused n e = refused-before n (readCauses b) room _ (done []) (sym e)
 
   module _ {vs : List ℕ} (e : done vs ≡ readAnswer b) where
-    pub values-read : values (markIn (words b)) ≡ vs
-    unfolding readAnswer
-    values-read = done-before (readCauses b) [] _ vs (done []) (sym e) .0
-
     pub values-short : o < 17 → valuesAnswer b o ≡ refused 4
     unfolding readAnswer valuesAnswer
     values-short h = done-before (readCauses b) room _ vs (done []) (sym e) .1 ∙ simp (lt-ltb o 17 h)
@@ -33,17 +33,17 @@ module _ (b : List ℕ) (o : ℕ) where
 
 -- ---- writing
 
+pub offset-fits : (m : Mark) {r : Bool} → r ≡ fits m → not r ≡ false → offsetFits (m .offset) ≡ true
+offset-fits m {r} tested right =
+    both-true (ltb (m .fraction) fields) (offsetFits (m .offset))
+    (both-true (ltb (m .seconds) (fields * fields)) _ (sym tested ∙ not-false r right) .1) .1
+
 module _ (m : Mark) (o : ℕ) {r : Bool} (tested : r ≡ fits m) where
   pub bad-value : not r ≡ true → writeAnswer m o ≡ refused 31
   unfolding writeAnswer
   bad-value h = refused-at 0 (writeCauses m o) _ tt (ap not (sym tested) ∙ h)
 
   module _ (right : not r ≡ false) where
-    pub offset-fits : offsetFits (m .offset) ≡ true
-    offset-fits =
-        both-true (ltb (m .fraction) fields) (offsetFits (m .offset))
-        (both-true (ltb (m .seconds) (fields * fields)) _ (sym tested ∙ not-false r right) .1) .1
-
     pub short : o < length (written m) → writeAnswer m o ≡ refused 4
     unfolding writeAnswer
     short h = refused-at 1 (writeCauses m o) _ (ap not (sym tested) ∙ right, tt) (lt-ltb _ _ h)

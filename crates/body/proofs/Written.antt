@@ -210,4 +210,4 @@ stored-read-written m o v a h =
     let body = ap (take (length (written m))) put′ ∙ part-there 0 (written m) o (omega arith) _ refl in
     ap (λ (b : List ℕ). valuesOutput b v) body
     ∙ sym (if-done (values-done (written m) (length v) said h) _ v)
-    ∙ ap (λ (l : List ℕ). put 0 l v) (values-read (written m) 0 said)
+    ∙ ap (λ (l : List ℕ). put 0 l v) (values-read (written m) said)

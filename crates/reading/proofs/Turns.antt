@@ -13,12 +13,12 @@ getD-zeros zero k = refl
 getD-zeros (suc n) zero = refl
 getD-zeros (suc n) (suc k) = getD-zeros n k
 
-pub holds-none : Holds false (replicate 16 0) []
+holds-none : Holds false (replicate 16 0) []
 holds-none = record { some = refl; first = λ k h. getD-zeros 16 k }
 
 module _ (b : Bool) (of ws : List ℕ) (w : ℕ) (H : Holds b of ws) (l : kind w < length of) where
   -- the word of its kind before it
-  abbrev pub before : ℕ
+  abbrev before : ℕ
   before = getD of (kind w) 0
 
   -- a word of kind 0 is bad in any case
@@ -28,7 +28,7 @@ module _ (b : Bool) (of ws : List ℕ) (w : ℕ) (H : Holds b of ws) (l : kind w
     | no h ↦ bad-zero _ w (omega arith) ∙ sym (bad-zero _ w (omega arith))
   ]
 
-  pub holds-more : {v : ℕ} {t : Bool} → t ≡ bad (not (eqb before 0)) w → v ≡ cond (eqb before 0) w before
+  holds-more : {v : ℕ} {t : Bool} → t ≡ bad (not (eqb before 0)) w → v ≡ cond (eqb before 0) w before
       → Holds (b || t) (set of (kind w) v) (ws ++ (w ∷ []))
   holds-more {v} {t} et ev = record {
     some = ap₂ _||_ (H .some) (et ∙ seen) ∙ sym (any-more [] ws w);

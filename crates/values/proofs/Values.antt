@@ -11,15 +11,15 @@ use Rattle.masking.specs.Sbox.{sboxShare}
 use Rattle.values.specs.Values.{Row, _is_, rows, Hold}
 
 -- one test over all rows
-all-same : List Row → Bool
-all-same [] = true
-all-same ((a is b) ∷ rs) = sameBytes a b && all-same rs
+same : List Row → Bool
+same [] = true
+same ((a is b) ∷ rs) = sameBytes a b && same rs
 
-hold : (rs : List Row) → all-same rs ≡ true → Hold rs
-unfolding all-same
+hold : (rs : List Row) → same rs ≡ true → Hold rs
+unfolding same
 hold [] e = tt
-hold ((a is b) ∷ rs) e = let both = both-true (sameBytes a b) (all-same rs) e in (same-true a b (both .0), hold rs (both .1))
+hold ((a is b) ∷ rs) e = let both = both-true (sameBytes a b) (same rs) e in (same-true a b (both .0), hold rs (both .1))
 
 pub values-hold : Hold rows
-unfolding all-same bit blockOf bitAt cells rearranged eachCell constant doubled sboxShare counterBlock recordOf bigEndian value tab _⊕_ zeros
+unfolding same bit blockOf bitAt cells rearranged eachCell constant doubled sboxShare counterBlock recordOf bigEndian value tab _⊕_ zeros
 values-hold = hold rows refl

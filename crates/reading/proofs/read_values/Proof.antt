@@ -26,7 +26,7 @@ returns-2 c =
     let start = read .before .before .before in
     let said = sym (ap readSays (told .before .answer .given .1)) ∙ read .read .ensures in
     let e = values-done _ _ said (done .before .before .if1 .left) in
-    let same = ap (λ (l : List ℕ). put 0 l (start .args .out .now)) (sym (values-read _ 0 said)) in
+    let same = ap (λ (l : List ℕ). put 0 l (start .args .out .now)) (sym (values-read _ said)) in
     (sym (ap numberOf e), done .put-values .ensures ∙ same ∙ if-done e _ _)
 
 -- an answer other than a mark is a refusal

@@ -22,7 +22,7 @@ put-body-requires c κs =
     let sized = c .before .before .before in
     let mark = sized .before .before .before .args .mark in
     let l = sized .size-with .ensures in
-    (offset-fits mark 0 (sized .before .in-range .ensures) (c .before .before .if1 .left), omega arith)
+    (offset-fits mark (sized .before .in-range .ensures) (c .before .before .if1 .left), omega arith)
 
 returns-3 : fn.Tie.Need-returns-3
 returns-3 c =
