@@ -101,8 +101,8 @@ static int lanes_right(const sealing *s)
 {
     uint8_t seen[RASPPUCE_LANE_BYTES];
     return report(s, CALLS, RASPPUCE_LAST_ROUND, RASPPUCE_LAST_LANE, seen) == RASPPUCE_OK
-        && report(s, CALLS + 1, ROUND, LANE, seen) == RASPPUCE_LANE
-        && report(s, CALL, RASPPUCE_LAST_ROUND + 1, LANE, seen) == RASPPUCE_LANE
+        && report(s, CALLS + 1, ROUND, LANE, seen) == RASPPUCE_CALL
+        && report(s, CALL, RASPPUCE_LAST_ROUND + 1, LANE, seen) == RASPPUCE_ROUND
         && report(s, CALL, ROUND, RASPPUCE_LAST_LANE + 1, seen) == RASPPUCE_LANE;
 }
 

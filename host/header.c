@@ -40,11 +40,11 @@
 #error "no version"
 #endif
 
-/* The answers that there are: 0 to 10, 20 to 22 and 30 to 32. */
+/* The answers that there are: 0 to 10, 20 to 22 and 30 to 34. */
 static int is_answer(uint32_t number)
 {
     return number <= RASPPUCE_SEQUENCE || (RASPPUCE_NOT_KEYED <= number && number <= RASPPUCE_OLD_NUMBER)
-        || (RASPPUCE_BODY_LENGTH <= number && number <= RASPPUCE_BODY_MISSING);
+        || (RASPPUCE_BODY_LENGTH <= number && number <= RASPPUCE_LANE);
 }
 
 /* Every answer has words of its own, and no other number has any. */

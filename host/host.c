@@ -357,7 +357,7 @@ static void bodies(void)
 
 /* ---- every refusal; `save` before the call, then `refused` */
 
-enum { LAST_REFUSAL = RASPPUCE_BODY_MISSING };
+enum { LAST_REFUSAL = RASPPUCE_LANE };
 
 static int met[LAST_REFUSAL + 1];
 
@@ -365,7 +365,7 @@ static int is_refusal(uint32_t number)
 {
     return (RASPPUCE_KEYS <= number && number <= RASPPUCE_SEQUENCE)
         || (RASPPUCE_NOT_KEYED <= number && number <= RASPPUCE_OLD_NUMBER)
-        || (RASPPUCE_BODY_LENGTH <= number && number <= RASPPUCE_BODY_MISSING);
+        || (RASPPUCE_BODY_LENGTH <= number && number <= RASPPUCE_LANE);
 }
 
 static void refused(uint32_t answer, uint32_t expected, const char *how)
@@ -383,6 +383,26 @@ static void save_odd(size_t len)
     fit_marked(&odd, len);
     save();
 }
+
+/* Numbers that are of no lane of an empty message's sealing, the first refusal of each, and how a log
+ * would say it. */
+typedef struct {
+    uint32_t call, round, lane, answer;
+    const char *how;
+} no_lane;
+
+static const no_lane no_lanes[] = {
+    {0, 1, 0, RASPPUCE_CALL, "call 0"},
+    {3, 1, 0, RASPPUCE_CALL, "call 3 of an empty message's sealing"},
+    {1, 0, 0, RASPPUCE_ROUND, "round 0"},
+    {1, RASPPUCE_LAST_ROUND + 1, 0, RASPPUCE_ROUND, "round 36"},
+    {1, 1, RASPPUCE_LAST_LANE + 1, RASPPUCE_LANE, "lane 3"},
+    {1, 1, UINT32_MAX, RASPPUCE_LANE, "lane 4294967295"},
+    {3, RASPPUCE_LAST_ROUND + 1, 0, RASPPUCE_CALL, "call 3 and round 36"},
+    {0, 1, RASPPUCE_LAST_LANE + 1, RASPPUCE_CALL, "call 0 and lane 3"},
+    {2, 0, RASPPUCE_LAST_LANE + 1, RASPPUCE_ROUND, "round 0 and lane 3"},
+    {3, RASPPUCE_LAST_ROUND + 1, UINT32_MAX, RASPPUCE_CALL, "call 3, round 36 and lane 4294967295"},
+};
 
 /* Words that make no body, the first refusal of each, and how a log would say it. */
 typedef struct {
@@ -472,10 +492,11 @@ static void refusals(void)
     save();
     refused(rasppuce_key_sender(LEND(sender), LINK, LEND(keys)), RASPPUCE_KEYS,
             "keying a sender with 32 bytes");
-    refused(rasppuce_report(LEND(sender), NULL, 0, LEND(tape), 3, 1, 0, LEND(lane)), RASPPUCE_LANE,
-            "call 3 of an empty message's sealing");
-    refused(rasppuce_report(LEND(sender), NULL, 0, LEND(tape), 1, 36, 0, LEND(lane)), RASPPUCE_LANE,
-            "round 36");
+    for (size_t i = 0; i < sizeof no_lanes / sizeof no_lanes[0]; i++) {
+        const no_lane *l = &no_lanes[i];
+        refused(rasppuce_report(LEND(sender), NULL, 0, LEND(tape), l->call, l->round, l->lane, LEND(lane)), l->answer,
+                l->how);
+    }
     refused(rasppuce_seal_plain(LEND(keys), LINK, 0, LEND(message), LEND(plain_record)), RASPPUCE_SEQUENCE,
             "sequence number 0");
     refused(rasppuce_seal(LEND(fresh), LEND(message), LEND(tape), LEND(plain_record), LEND(tag_shares)),

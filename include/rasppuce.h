@@ -55,13 +55,13 @@ extern "C" {
 
 /* ---- version of this header and of the archive that comes with it: see CHANGELOG.md */
 
-#define RASPPUCE_VERSION_MAJOR 1
-#define RASPPUCE_VERSION_MINOR 1
+#define RASPPUCE_VERSION_MAJOR 2
+#define RASPPUCE_VERSION_MINOR 0
 #define RASPPUCE_VERSION_PATCH 0
-#define RASPPUCE_VERSION       "1.1.0"
+#define RASPPUCE_VERSION       "2.0.0"
 
-/* ---- answers: success, refusals from the input (1 to 10), from the link's state (20 to 22), and
- * of bodies (30 to 32) */
+/* ---- answers: success, refusals from the input (1 to 10), from the link's state (20 to 22), of
+ * bodies (30 to 32), and of a report's round and lane (33 and 34) */
 
 #define RASPPUCE_OK            0u /* done */
 #define RASPPUCE_KEYS          1u /* key material isn't 96 bytes (sender) or 32; in keying, also
@@ -70,7 +70,7 @@ extern "C" {
 #define RASPPUCE_TAPE          3u /* tape under the need */
 #define RASPPUCE_OUTPUT        4u /* output shorter than the result */
 #define RASPPUCE_BLOCK         5u /* a block call's key, input or output isn't 16 bytes */
-#define RASPPUCE_LANE          6u /* call not in 1 to 2n+2, round or lane out of range */
+#define RASPPUCE_CALL          6u /* the call to be shown isn't in 1 to 2n+2 */
 #define RASPPUCE_RECORD        7u /* record not 24 to 280 bytes */
 #define RASPPUCE_OTHER_LINK    8u /* the record has another link number */
 #define RASPPUCE_TAG           9u /* wrong tag */
@@ -82,6 +82,8 @@ extern "C" {
 #define RASPPUCE_BODY_WORD    31u /* read: a word of kind 0, a kind 1 to 4 for the second time, or an
                                      offset out of its range; written: a value out of its range */
 #define RASPPUCE_BODY_MISSING 32u /* the body has no word of kind 1, 2 or 3 */
+#define RASPPUCE_ROUND        33u /* the round to be shown isn't in 1 to 35 */
+#define RASPPUCE_LANE         34u /* the lane to be shown isn't in 0 to 2 */
 
 /* ---- sizes in bytes; they can stand in #if */
 
@@ -136,7 +138,7 @@ static inline const char *rasppuce_meaning(uint32_t answer)
     case RASPPUCE_TAPE:         return "the tape is too short for this message";
     case RASPPUCE_OUTPUT:       return "an output is shorter than the result";
     case RASPPUCE_BLOCK:        return "a block call takes 16 bytes each";
-    case RASPPUCE_LANE:         return "there is no such call, round or lane";
+    case RASPPUCE_CALL:         return "the sealing has no such call";
     case RASPPUCE_RECORD:       return "a record has 24 to 280 bytes";
     case RASPPUCE_OTHER_LINK:   return "the record is for another link";
     case RASPPUCE_TAG:          return "wrong tag: damaged, forged or under another key";
@@ -147,6 +149,8 @@ static inline const char *rasppuce_meaning(uint32_t answer)
     case RASPPUCE_BODY_LENGTH:  return "a body has 4 to 256 bytes, in steps of 4";
     case RASPPUCE_BODY_WORD:    return "a word of the body or a value of the mark is not allowed";
     case RASPPUCE_BODY_MISSING: return "the body lacks the seconds or their fraction";
+    case RASPPUCE_ROUND:        return "a call has no such round";
+    case RASPPUCE_LANE:         return "a round has no such lane";
     default:                    return "no answer of Rasppuce";
     }
 }
@@ -265,7 +269,7 @@ uint32_t rasppuce_seal_plain(const uint8_t *keys, size_t keys_len,
  *        the round adds it
  *
  * Refuses: RASPPUCE_NOT_KEYED, RASPPUCE_NUMBERS_USED, RASPPUCE_MESSAGE, RASPPUCE_TAPE,
- * RASPPUCE_LANE, RASPPUCE_OUTPUT (shorter than 48).
+ * RASPPUCE_CALL, RASPPUCE_ROUND, RASPPUCE_LANE, RASPPUCE_OUTPUT (shorter than 48).
  */
 RASPPUCE_CHECK
 uint32_t rasppuce_report(const uint8_t *link, size_t link_len,

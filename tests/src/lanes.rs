@@ -3,8 +3,8 @@
 use crate::cipher::{self, Block, ROUNDS};
 use crate::lent::{hold_answer, hold_as, hold_order, Call, Lent};
 use crate::links::{
-    self, Sender, BAD_LANE, LANE, LONG_MESSAGE, NOT_KEYED, NUMBERS_USED, SENDER, SENDER_KEYS, SHARES,
-    SHORT_OUTPUT, SHORT_TAPE,
+    self, Sender, BAD_CALL, BAD_LANE, BAD_ROUND, LANE, LONG_MESSAGE, NOT_KEYED, NUMBERS_USED, SENDER,
+    SENDER_KEYS, SHARES, SHORT_OUTPUT, SHORT_TAPE,
 };
 use crate::modes::xor_blocks;
 use crate::sealing::Seal;
@@ -187,7 +187,8 @@ pub fn tag_shares(tally: &mut Tally) {
     }
 }
 
-/// Calls, rounds and lanes at the ends of their ranges and out of them.
+/// Calls, rounds and lanes at the ends of their ranges and out of them, with each other: of the wrong
+/// ones, the call has its number first, then the round.
 pub fn ranges(tally: &mut Tally) {
     for length in [0, 1, 16, 17, 33] {
         let good = good(tally, length, 2);
@@ -197,9 +198,15 @@ pub fn ranges(tally: &mut Tally) {
         {
             for round in [0, 1, 2, 34, 35, 36, 37, 256 + 1, 65_536 + 1, 0x8000_0001, u32::MAX] {
                 for lane in [0, 1, 2, 3, 4, 256, 65_536, 0x8000_0000, u32::MAX] {
-                    let fits = (1..=calls).contains(&call) && (1..=35).contains(&round) && lane <= 2;
+                    let answer = match (call, round, lane) {
+                        (0, _, _) => BAD_CALL,
+                        _ if call > calls => BAD_CALL,
+                        (_, 1..=35, 0..=2) => 0,
+                        (_, 1..=35, _) => BAD_LANE,
+                        _ => BAD_ROUND,
+                    };
                     let call = Report { call, round, lane, ..good.clone() };
-                    hold_answer(tally, &call, if fits { 0 } else { BAD_LANE }, lane as usize);
+                    hold_answer(tally, &call, answer, lane as usize);
                 }
             }
         }
@@ -241,6 +248,11 @@ pub fn lengths(tally: &mut Tally) {
     }
 }
 
+/// The number of the call past a sealing's last, for n blocks 2n+3.
+fn past_last(report: &Report) -> u32 {
+    2 * report.message.len().div_ceil(16) as u32 + 3
+}
+
 /// The refusals, alone and together.
 pub fn refusals(tally: &mut Tally) {
     for length in [0, 17] {
@@ -261,20 +273,9 @@ pub fn refusals(tally: &mut Tally) {
                 (NUMBERS_USED, &[|call| links::set_last(&mut call.link, u32::MAX)]),
                 (LONG_MESSAGE, &[|call| call.message.resize(257, 1), |call| call.message.resize(65_536, 3)]),
                 (SHORT_TAPE, &[|call| call.tape.clear(), |call| call.tape.truncate(call.tape.len() - 1)]),
-                (
-                    BAD_LANE,
-                    &[
-                        |call| call.call = 0,
-                        |call| call.call = 7,
-                        |call| call.call = u32::MAX,
-                        |call| call.round = 0,
-                        |call| call.round = 36,
-                        |call| call.round = u32::MAX,
-                        |call| call.lane = 3,
-                        |call| call.lane = u32::MAX,
-                        |call| (call.call, call.round, call.lane) = (0, 0, 3),
-                    ],
-                ),
+                (BAD_CALL, &[|call| call.call = 0, |call| call.call = past_last(call), |call| call.call = u32::MAX]),
+                (BAD_ROUND, &[|call| call.round = 0, |call| call.round = 36, |call| call.round = u32::MAX]),
+                (BAD_LANE, &[|call| call.lane = 3, |call| call.lane = u32::MAX]),
                 (SHORT_OUTPUT, &[|call| call.out.clear(), |call| call.out.truncate(47)]),
             ],
         );

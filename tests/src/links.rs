@@ -26,7 +26,7 @@ pub const LONG_MESSAGE: u32 = 2;
 pub const SHORT_TAPE: u32 = 3;
 pub const SHORT_OUTPUT: u32 = 4;
 pub const NOT_A_BLOCK: u32 = 5;
-pub const BAD_LANE: u32 = 6;
+pub const BAD_CALL: u32 = 6;
 pub const BAD_RECORD: u32 = 7;
 pub const OTHER_LINK: u32 = 8;
 pub const WRONG_TAG: u32 = 9;
@@ -34,6 +34,8 @@ pub const NO_SEQUENCE: u32 = 10;
 pub const NOT_KEYED: u32 = 20;
 pub const NUMBERS_USED: u32 = 21;
 pub const OLD_NUMBER: u32 = 22;
+pub const BAD_ROUND: u32 = 33;
+pub const BAD_LANE: u32 = 34;
 
 fn number_at(bytes: &[u8], at: usize) -> u32 {
     u32::from_be_bytes(bytes[at..at + 4].try_into().unwrap())
@@ -240,7 +242,13 @@ pub fn report(
         Err(refusal) => return refusal,
     };
     let calls = shares::call_count(message.len()) as u32;
-    if !(1..=calls).contains(&call) || !(1..=ROUNDS as u32).contains(&round) || lane > 2 {
+    if !(1..=calls).contains(&call) {
+        return BAD_CALL;
+    }
+    if !(1..=ROUNDS as u32).contains(&round) {
+        return BAD_ROUND;
+    }
+    if lane > 2 {
         return BAD_LANE;
     }
     if out.len() < LANE {

@@ -135,15 +135,23 @@ pub fn lanes() {
     print_sealed(&mut link.clone(), &[], &tape(need));
     print_sealed(&mut link.clone(), &[], &tape(need + 1));
 
-    let report = |what: &str, link: &[u8], message: &[u8], tape: &[u8], call: u32, room: usize| {
-        println!("report {what} {}", links::report(link, message, tape, call, 1, 0, &mut vec![0; room]));
+    let report = |what: &str, link: &[u8], message: &[u8], tape: &[u8], room: usize| {
+        println!("report {what} {}", links::report(link, message, tape, 1, 1, 0, &mut vec![0; room]));
     };
     let not_keyed = [0; links::SENDER];
-    report("tape one short", &link, &[], &tape(need - 1), 1, 48);
-    report("call 3", &link, &[], &tape(need), 3, 48);
-    report("257 bytes", &link, &message(257), &tape(need), 1, 48);
-    report("not keyed", &not_keyed, &[], &tape(need), 1, 48);
-    report("output one short", &link, &[], &tape(need), 1, 47);
+    report("tape one short", &link, &[], &tape(need - 1), 48);
+    report("257 bytes", &link, &message(257), &tape(need), 48);
+    report("not keyed", &not_keyed, &[], &tape(need), 48);
+    report("output one short", &link, &[], &tape(need), 47);
+
+    for call in [2, 3] {
+        for round in [35, 36] {
+            for lane in [2, 3] {
+                let number = links::report(&link, &[], &tape(need), call, round, lane, &mut [0; 48]);
+                println!("report {call} {round} {lane} {number}");
+            }
+        }
+    }
 }
 
 // ---- the rack's loop

@@ -1,7 +1,7 @@
 -- A refusal's number is that of the first cause that applies, and of no other; an answer accepts where none applies.
 -- Assumes nothing.
 use Rattle.prelude.proofs.{_≡_, refl, sym, ap, _∙_, subst, _↔_, Bool, true, false, not, cond, List, [], _∷_, _++_, ℕ, zero, suc, _≤_, _<_}
-use Rattle.prelude.proofs.{arith, T, eqb, ltb, take, drop, eq-eqb, ne-eqb, lt-ltb, le-ltb, le-leb, lt-leb}
+use Rattle.prelude.proofs.{arith, T, eqb, ltb, take, drop, eq-eqb, ne-eqb, lt-ltb, le-ltb, le-leb, lt-leb, false≢true}
 use Rattle.answers.specs.Answer.{Answer, done, refused, Cause, _when_, first, numberOf, valuesOf, Accepts, ifDone}
 use Rattle.answers.specs.Answer.{FirstOf, here, later, NoneOf}
 
@@ -19,6 +19,32 @@ first-refused n ((m when false) ∷ cs) vs e = later tt (first-refused n cs vs e
 -- each refusal number has exactly its cause, in their order
 pub refused-exactly : (n : ℕ) (cs : List Cause) (vs : List ℕ) → first cs (done vs) ≡ refused n ↔ FirstOf n cs
 refused-exactly n cs vs = (first-refused n cs vs, refused-first n cs (done vs))
+
+-- ---- a number that one cause alone has
+
+-- no cause has the number n
+abbrev pub Lacks : ℕ → List Cause → Type 0
+Lacks n [] = Unit {0}
+Lacks n ((m when b) ∷ cs) = T (not (eqb m n)) × Lacks n cs
+
+differs : (m n : ℕ) → T (not (eqb m n)) → m ≡ n → ⊥
+differs m n h e = subst (λ (b : Bool). T (not b)) (eq-eqb m n e) h
+
+lacks-refused : (n : ℕ) (cs : List Cause) (vs : List ℕ) → Lacks n cs → first cs (done vs) ≡ refused n → ⊥
+lacks-refused n [] vs l e = let z : _≡_ {A = ℕ} 0 1 = cc in omega arith
+lacks-refused n ((m when true) ∷ cs) vs l e = differs m n (l .0) cc
+lacks-refused n ((m when false) ∷ cs) vs l e = lacks-refused n cs vs (l .1) e
+
+-- it is answered exactly where its cause applies and none before it does
+pub refused-here : (n : ℕ) (b : Bool) (cs : List Cause) (vs : List ℕ) → Lacks n cs
+    → first ((n when b) ∷ cs) (done vs) ≡ refused n ↔ b ≡ true
+refused-here n true cs vs l = (λ e. refl, λ e. refl)
+refused-here n false cs vs l = (λ e. absurd (lacks-refused n cs vs l e), λ e. absurd (false≢true e))
+
+pub refused-later : (n m : ℕ) (b : Bool) (cs : List Cause) (vs : List ℕ) → T (not (eqb m n))
+    → first ((m when b) ∷ cs) (done vs) ≡ refused n ↔ ((b ≡ false) × (first cs (done vs) ≡ refused n))
+refused-later n m true cs vs h = (λ e. absurd (differs m n h cc), λ e. absurd (false≢true (sym (e .0))))
+refused-later n m false cs vs h = (λ e. (refl, e), λ e. e .1)
 
 -- ---- the cause at place k, from 0, is the first that applies
 

@@ -1,14 +1,16 @@
 -- When sealing and the report are done: no cause of a refusal applies. Assumes nothing.
-use Rattle.prelude.proofs.{_≡_, ap, true, not, List, [], _∷_, ℕ, _≤_, _<_, arith, length, drop, ltb-false, eqb-false, not-false, lt-ltb}
+use Rattle.prelude.proofs.{_≡_, ap, _∙_, true, not, List, [], _∷_, ℕ, _≤_, _<_, arith, length, drop, ltb-false, eqb-false, not-false}
 use Rattle.prelude.proofs.{le-ltb, eq-eqb, ne-eqb}
 use Rattle.blocks.specs.Bytes.{blockCount}
-use Rattle.answers.specs.Answer.{Cause, done, NoneOf}
-use Rattle.answers.proofs.First.{done-none, accepts-none, none-accepts}
+use Rattle.answers.specs.Answer.{Cause, done, first, NoneOf}
+use Rattle.answers.proofs.First.{done-none, done-before, accepts-none, none-accepts}
 use Rattle.links.specs.Record.{standard, greatest, longest, recordSize}
 use Rattle.links.specs.declared.Sender.{Sender}
 use Rattle.plain.specs.Entry.{plainKeys, plainCauses, plainAnswer}
 use Rattle.masking.specs.Call.{pairCount}
-use Rattle.calls.specs.Entry.{inputCauses, sealCauses, sealAnswer, laneSize, reportCauses, hasLane, reportAnswer}
+use Rattle.runs.specs.Lanes.{laneSize, laneCauses}
+use Rattle.runs.proofs.Lanes.{none-exactly}
+use Rattle.calls.specs.Entry.{inputCauses, sealCauses, sealAnswer, reportAnswer}
 use Rattle.calls.specs.{Numbered.callCount, Numbered.tapeNeed, Demand.Accepted}
 
 -- what sealing and the report ask alike
@@ -69,19 +71,19 @@ module _ (x : Sender) (m t : List ℕ) where
 
   -- ---- the report
 
-  pub reported : (k r i o : ℕ) → Sealable x m t → 1 ≤ k → k ≤ callCount (blockCount (length m)) → 1 ≤ r → r ≤ pairCount → i < 3
-      → laneSize ≤ o → reportAnswer x m t k r i o ≡ done []
-  unfolding reportAnswer
-  reported k r i o S k₁ kₙ r₁ rₙ i₂ h =
-      done-none (reportCauses x m t k r i o) (done []) (sealable-none (drop 4 (reportCauses x m t k r i o)) S
-      (ap not has, (le-ltb o laneSize h, tt)))
-    where
-      has : hasLane (length m) k r i ≡ true
-      has =
-          simp (
-            ne-eqb k 0 (λ e. omega arith),
-            le-ltb (callCount (blockCount (length m))) k kₙ,
-            ne-eqb r 0 (λ e. omega arith),
-            le-ltb pairCount r rₙ,
-            lt-ltb i 3 i₂,
-          )
+  module _ (k r i o : ℕ) (S : Sealable x m t) where
+    abbrev causes : List Cause
+    causes = laneCauses (callCount (blockCount (length m))) pairCount k r i o
+
+    -- its answer hangs on the numbers of the lane and on the room
+    pub report-answer : reportAnswer x m t k r i o ≡ first causes (done [])
+    unfolding reportAnswer
+    report-answer =
+        let cs = inputCauses x m t [] in
+        done-before cs causes [] [] (done []) (done-none cs (done []) (sealable-none [] S tt)) .1
+
+    pub reported : 1 ≤ k → k ≤ callCount (blockCount (length m)) → 1 ≤ r → r ≤ pairCount → i < 3 → laneSize ≤ o
+        → reportAnswer x m t k r i o ≡ done []
+    reported k₁ kₙ r₁ rₙ l h =
+        report-answer
+        ∙ done-none causes (done []) (none-exactly _ pairCount k r i o .1 ((k₁, kₙ), ((r₁, rₙ), ((omega arith, omega arith), h))))

@@ -14,10 +14,11 @@ use Rattle.masking.proofs.Lane.{first-part, second-part, third-part, parts-leng
 use Rattle.masking.proofs.Encryption.{encryption-blocks, encryption-joins, encryption-turns, plain-after, lane-follows, call-lane}
 use Rattle.masking.proofs.{Shape.Reads, Tape.at-reads, MaskedCall.one-accepted}
 use Rattle.runs.specs.Run.{Run, keyShares, inputOf, outputOf, laneOf}
+use Rattle.runs.specs.Lanes.{laneSize}
 use Rattle.runs.proofs.Run.{Placed, RunBlocks, key-blocks, input-blocks, output-blocks, states-join, keys-join, lane-length, lane-twice}
 use Rattle.runs.proofs.OneTape.{one-tape-run}
 use Rattle.calls.specs.Numbered.{callOf, callCount, callAt, tapeNeed, keyAt, ofKey}
-use Rattle.calls.specs.Entry.{sealAnswer, sealShares, laneSize, indexOf}
+use Rattle.calls.specs.Entry.{sealAnswer, sealShares, indexOf}
 use Rattle.calls.specs.Demand.{Accepted, AcceptedSealing, joinedKE, joinedKM, shown, masksOf, SameLane, Joined}
 use Rattle.calls.specs.{Sealed.sealingCalls, Sealed.tagShares, Plain.plainInput, Plain.plainState, Plain.plainKey}
 use Rattle.calls.proofs.Accepted.{Sealable, accepted, values, sealable, room, reported}

@@ -9,10 +9,11 @@ use Rattle.masking.specs.{Stages.state, Stages.lane, Call.encryption, Call.pair
 use Rattle.masking.proofs.{Causal.Agree, Causal.state-agree, Tape.take-agree}
 use Rattle.answers.specs.Answer.{numberOf, Accepts}
 use Rattle.answers.proofs.First.{if-done}
-use Rattle.calls.specs.Entry.{sealShares, laneSize, reportAnswer, reportOutput, indexOf}
+use Rattle.calls.specs.Entry.{sealShares, reportAnswer, reportOutput, indexOf}
 use Rattle.calls.specs.Demand.{AcceptedSealing, shown, masksOf, SameLane, Joined}
 use Rattle.calls.specs.{Numbered.callCount, Numbered.callAt, Sealed.sealingCalls}
 use Rattle.runs.specs.Run.{keyShares, inputOf, laneOf}
+use Rattle.runs.specs.Lanes.{laneSize}
 use Rattle.runs.proofs.Run.{key-agree, input-agree}
 use Rattle.calls.proofs.Lanes.{can-seal, shown-lane, joined, followed, tag-lane, exactly-one}
 use Rattle.calls.proofs.{Shape.sealing-placed, Accepted.reported}

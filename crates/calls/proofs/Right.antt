@@ -15,9 +15,10 @@ use Rattle.plain.specs.{Plain.plainRecord, Entry.plainAnswer, Entry.plainOutput
 use Rattle.plain.proofs.Sealed.{plain-sequence}
 use Rattle.masking.specs.Shares.{Shares, join, sharesIn, flat, at}
 use Rattle.masking.proofs.{Causal.Agree, Tape.take-agree}
-use Rattle.calls.specs.Entry.{advanced, sealAnswer, sealLink, sealOutput, laneSize, indexOf}
+use Rattle.calls.specs.Entry.{advanced, sealAnswer, sealLink, sealOutput, indexOf}
 use Rattle.calls.specs.Demand.{Accepted, AcceptedSealing, joinedKE, joinedKM, SameSealing}
 use Rattle.calls.specs.{Numbered.callCount, Numbered.tapeNeed, Sealed.ciphertext, Sealed.tagShares, Sealed.sealedRecord}
+use Rattle.runs.specs.Lanes.{laneSize}
 use Rattle.runs.proofs.Run.{output-agree, lane-agrees}
 use Rattle.calls.proofs.Shape.{ke-block, km-block, sealing-placed}
 use Rattle.calls.proofs.Accepted.{values, sealable, reported, plain-done}

@@ -1,20 +1,21 @@
 -- When sealing and the report are accepted, what they return then, and that each refusal has exactly its cause and changes nothing.
 -- Assumes nothing.
-use Rattle.prelude.proofs.{_≡_, refl, sym, _↔_, true, List, [], _∷_, ℕ, _+_, _^_, _≤_, _<_, decLt, arith, length, replicate}
+use Rattle.prelude.proofs.{_≡_, refl, sym, subst, _↔_, true, List, [], _∷_, ℕ, _+_, _^_, _≤_, _<_, decLt, arith, length, replicate}
 use Rattle.prelude.proofs.{length-replicate}
-use Rattle.blocks.specs.Bytes.{Bytes, put}
+use Rattle.blocks.specs.Bytes.{Bytes, put, blockCount}
 use Rattle.blocks.proofs.Parts.{part-length, part-bytes}
 use Rattle.answers.specs.Answer.{done, refused, FirstOf}
 use Rattle.answers.proofs.First.{if-refused, refused-exactly}
 use Rattle.links.specs.Record.{standard, numberSize, greatest, longest, recordSize}
 use Rattle.links.specs.{Links.senderKeys, Links.senderOf, declared.Sender.Sender}
-use Rattle.masking.specs.{Shares.at, Call.encryption}
+use Rattle.masking.specs.{Shares.at, Call.encryption, Call.pairCount}
 use Rattle.calls.specs.Entry.{sealCauses, sealAnswer, sealLink, advanced, sealOutput, reportCauses, reportAnswer, reportOutput}
 use Rattle.calls.specs.Entry.{indexOf}
 use Rattle.calls.specs.Demand.{Formed, Accepted, AcceptedSealing}
-use Rattle.calls.specs.{Numbered.tapeNeed, Sealed.sealingCalls, Sealed.sealedRecord}
-use Rattle.runs.specs.Run.{laneOf}
-use Rattle.calls.proofs.Accepted.{accepted, values, sealable, room}
+use Rattle.calls.specs.{Numbered.callCount, Numbered.tapeNeed, Sealed.sealingCalls, Sealed.sealedRecord}
+use Rattle.runs.specs.{Run.laneOf, Lanes.TellsNumber}
+use Rattle.runs.proofs.Lanes.{tells-number}
+use Rattle.calls.proofs.Accepted.{accepted, values, sealable, room, report-answer}
 
 -- ---- accepted
 
@@ -92,6 +93,15 @@ pub report-refused-exactly : (x : Sender) (m t : List ℕ) (k r i o n : ℕ)
     → reportAnswer x m t k r i o ≡ refused n ↔ FirstOf n (reportCauses x m t k r i o)
 unfolding reportAnswer
 report-refused-exactly x m t k r i o n = refused-exactly n (reportCauses x m t k r i o) []
+
+-- of the inputs of an accepted sealing: the report refuses under 6 exactly a call that is not one of 1 to 2n + 2, under 33 a round of a
+-- call that is not one of 1 to 35, under 34 a lane of a round that is not one of 0 to 2, and accepts exactly the rest, if it has room
+pub report-tells-number : (S : AcceptedSealing) (k r i o : ℕ)
+    → TellsNumber (callCount (blockCount (length (S .message)))) pairCount k r i o (reportAnswer (S .link) (S .message) (S .tape) k r i o)
+report-tells-number S k r i o =
+    subst (TellsNumber _ pairCount k r i o)
+    (sym (report-answer _ _ _ k r i o (sealable (S .link) (S .message) (S .tape) (length (S .out)) (S .accepted))))
+    (tells-number _ pairCount k r i o)
 
 -- ---- a refusal leaves the link and every lent byte as they came
 

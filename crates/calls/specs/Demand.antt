@@ -11,9 +11,10 @@ use Rattle.links.specs.declared.Sender.{Sender}
 use Rattle.masking.specs.Shares.{join, sharesIn, pairSize}
 use Rattle.masking.specs.Call.{pairCount}
 use Rattle.masking.specs.OneTape.{laneMask, Shows}
+use Rattle.runs.specs.Lanes.{laneSize}
 use Rattle.calls.specs.Numbered.{callOf, callCount, keyAt, callAt}
 use Rattle.calls.specs.Plain.{plainState, plainKey}
-use Rattle.calls.specs.Entry.{sealAnswer, sealLink, sealShares, sealOutput, indexOf, laneSize, reportOutput}
+use Rattle.calls.specs.Entry.{sealAnswer, sealLink, sealShares, sealOutput, indexOf, reportOutput}
 
 -- what the fields of a sending link can hold
 pub record Formed (x : Sender) : Type 0 where

@@ -1,6 +1,6 @@
 -- What shared sealing and the lane report answer, the link and the shares that come back, and the outputs at their end.
 -- Assumes nothing.
-use mathlib.Core.Bool.{Bool, not, _&&_}
+use mathlib.Core.Bool.{not}
 use mathlib.Core.List.{List, [], _∷_}
 use Prim.Native.Nat.{ℕ, zero, suc, _+_}
 use lib.Dec.{eqb, ltb}
@@ -12,6 +12,7 @@ use Rattle.links.specs.declared.Sender.{Sender}
 use Rattle.masking.specs.Shares.{Index, i₀, i₁, i₂, flat, at}
 use Rattle.masking.specs.Call.{encryption, pairCount}
 use Rattle.runs.specs.Run.{laneOf}
+use Rattle.runs.specs.Lanes.{laneCauses}
 use Rattle.calls.specs.Numbered.{callCount, tapeNeed}
 use Rattle.calls.specs.Sealed.{sealingCalls, tagShares, sealedRecord}
 
@@ -48,19 +49,8 @@ sealOutput x m t o = output (sealAnswer x m t (length o)) (sealedRecord x m (at 
 
 -- ---- the report of lane i of call k, round r, of the sealing that the link would do next
 
-abbrev pub laneSize : ℕ
-laneSize = 48
-
--- a sealing of a message of n bytes has lane i of call k, round r: calls and rounds are numbered from 1, lanes from 0
-abbrev pub hasLane : ℕ → ℕ → ℕ → ℕ → Bool
-hasLane n k r i = not (eqb k 0) && not (ltb (callCount (blockCount n)) k) && not (eqb r 0) && not (ltb pairCount r) && ltb i 3
-
 abbrev pub reportCauses : Sender → List ℕ → List ℕ → ℕ → ℕ → ℕ → ℕ → List Cause
-reportCauses x m t k r i o =
-    inputCauses x m t
-    ((6 when not (hasLane (length m) k r i))
-    ∷ (4 when ltb o laneSize)
-    ∷ [])
+reportCauses x m t k r i o = inputCauses x m t (laneCauses (callCount (blockCount (length m))) pairCount k r i o)
 
 unfoldable pub reportAnswer : Sender → List ℕ → List ℕ → ℕ → ℕ → ℕ → ℕ → Answer
 reportAnswer x m t k r i o = first (reportCauses x m t k r i o) (done [])

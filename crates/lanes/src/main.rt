@@ -4,10 +4,20 @@ use sealing::SealAnswer;
 ghost use Prim.Native.Nat.{_≤_};
 ghost use lib.ListN.{length};
 
-// Prints the number that the report of lane 0 of round 1 of a call gives.
-fn try_report(what: &[u8], link: Sender, message: &[u8], tape: &[u8], call: u32, out: &mut [u8]) {
-    let answer = reporting::report(link, message, tape, call, 1, 0, out);
+// Prints the number that the report of lane 0 of round 1 of call 1 gives.
+fn try_report(what: &[u8], link: Sender, message: &[u8], tape: &[u8], out: &mut [u8]) {
+    let answer = reporting::report(link, message, tape, 1, 1, 0, out);
     show::tried(what, answer.number() as u64);
+}
+
+// Prints the number that the report of a lane gives, where the message is empty.
+fn try_lane(link: Sender, tape: &[u8], call: u32, round: u32, lane: u32) {
+    let answer = reporting::report(link, b"", tape, call, round, lane, &mut [0; 48]);
+    show::word(b"report ");
+    show::number(call as u64);
+    show::number(round as u64);
+    show::number(lane as u64);
+    show::tried(b"", answer.number() as u64);
 }
 
 // The tape bytes that a message of n bytes needs.
@@ -81,32 +91,24 @@ fn refused_reports(link: Sender) {
     let mut out = [0u8; 48];
     let mut short_out = [0u8; 47];
     let tape = [0u8; 2304];
-    try_report(
-        b"report tape one short ",
-        link,
-        b"",
-        &[0; 2303],
-        1,
-        &mut out,
-    );
-    try_report(b"report call 3 ", link, b"", &tape, 3, &mut out);
-    try_report(b"report 257 bytes ", link, &[0; 257], &tape, 1, &mut out);
-    try_report(
-        b"report not keyed ",
-        Sender::fresh(),
-        b"",
-        &tape,
-        1,
-        &mut out,
-    );
+    try_report(b"report tape one short ", link, b"", &[0; 2303], &mut out);
+    try_report(b"report 257 bytes ", link, &[0; 257], &tape, &mut out);
+    try_report(b"report not keyed ", Sender::fresh(), b"", &tape, &mut out);
     try_report(
         b"report output one short ",
         link,
         b"",
         &tape,
-        1,
         &mut short_out,
     );
+}
+
+// The last call, round and lane, the ones past them, and each with each.
+fn refused_lanes(link: Sender) {
+    let tape = [0u8; 2304];
+    for k in 0..8u32 {
+        try_lane(link, &tape, 2 + k / 4, 35 + k / 2 % 2, 2 + k % 2);
+    }
 }
 
 // Lanes of the first call, of the one behind CTR's and of the last.
@@ -141,4 +143,5 @@ fn main() {
     seal_first(link, &message, 0, &tape, 0);
     seal_first(link, &message, 0, &tape, 1);
     refused_reports(link);
+    refused_lanes(link);
 }

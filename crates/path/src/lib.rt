@@ -21,18 +21,26 @@ ghost use Rattle.blocks.specs.Bytes.{blockCount};
 ghost use Rattle.masking.specs.Shares.{sharesIn, add as addShares, at, pairSize, masksAt};
 ghost use Rattle.shares.specs.Packed.{sharesOf};
 ghost use Rattle.links.specs.Record.{longest};
-ghost use Rattle.calls.specs.Numbered.{tapeNeed};
+ghost use Rattle.calls.specs.Numbered.{callCount, tapeNeed};
 ghost use Rattle.calls.specs.Sealed.{sealingCalls};
 ghost use Rattle.runs.specs.Walk.{Walked};
 ghost use Rattle.inputs.specs.Inputs.{outsSize};
 ghost use Rattle.path.specs.Path.{Ready, OutsHold, CtrDone, ChainDone, AllDone};
 
-// The tape bytes that a message of n bytes needs.
+// The calls of a sealing of n bytes.
+pub fn call_count(n: usize) -> usize
+    requires { ⌜ n ≤ longest ⌝ }
+    ensures { λ r. ⌜ r ≡ callCount (blockCount n) ⌝ }
+{
+    2 * ((n + 15) / 16) + 2
+}
+
+// The tape bytes that it needs.
 pub fn tape_need(n: usize) -> usize
     requires { ⌜ n ≤ longest ⌝ }
     ensures { λ r. ⌜ r ≡ tapeNeed n ⌝ }
 {
-    2 * PAIR + CALL * (2 * ((n + 15) / 16) + 2)
+    2 * PAIR + CALL * call_count(n)
 }
 
 // ---- CTR's calls

@@ -1,7 +1,7 @@
 -- The library's names that the proofs use, each under its own name: a proof file brings them in from here.
 pub mod Walks
 pub use mathlib.Core.Path.{_≡_, refl, sym, ap, _∙_, subst, ap₂, subst⁻¹, fun-ext}
-pub use mathlib.Core.Logic.{_↔_, ⊎-elim, inl, inr}
+pub use mathlib.Core.Logic.{_↔_, Iff·trans, Iff·and, Iff·not, ⊎-elim, inl, inr}
 pub use mathlib.Core.Bool.{Bool, true, false, not, cond, _&&_, and-comm, Bool·beq, and-true, and-false, and-assoc, false≢true}
 pub use mathlib.Core.Bool.{_||_, or-true, or-false, or-assoc, or-comm}
 pub use mathlib.Core.List.{List, [], _∷_, _++_, append-assoc, append-nil, map}

@@ -3,16 +3,16 @@ use links::GREATEST;
 use links::LONGEST;
 use links::Sender;
 use outgoing::lane_of;
+use path::call_count;
 use path::run;
 use path::tape_need;
 use runs::Watch;
+use runs::within;
 use shares::PAIRS;
 ghost use mathlib.Core.Path.{_≡_};
-ghost use Prim.Native.Nat.{_≤_};
 ghost use lib.ListN.{length};
 ghost use Rattle.answers.specs.Answer.{numberOf};
-ghost use Rattle.links.specs.Record.{longest};
-ghost use Rattle.calls.specs.Entry.{reportAnswer, hasLane, reportOutput};
+ghost use Rattle.calls.specs.Entry.{reportAnswer, reportOutput};
 ghost use Rattle.reporting.specs.Says.{reportSays};
 
 pub enum ReportAnswer {
@@ -21,6 +21,8 @@ pub enum ReportAnswer {
     NumbersUsed,
     LongMessage,
     ShortTape,
+    BadCall,
+    BadRound,
     BadLane,
     ShortOutput,
 }
@@ -36,30 +38,12 @@ impl ReportAnswer {
             ReportAnswer::NumbersUsed => 21,
             ReportAnswer::LongMessage => 2,
             ReportAnswer::ShortTape => 3,
-            ReportAnswer::BadLane => 6,
+            ReportAnswer::BadCall => 6,
+            ReportAnswer::BadRound => 33,
+            ReportAnswer::BadLane => 34,
             ReportAnswer::ShortOutput => 4,
         }
     }
-}
-
-// Whether a sealing of a message of n bytes has that lane: calls and rounds are numbered from 1, lanes from 0.
-fn has_lane(n: usize, call: u32, round: u32, lane: u32) -> bool
-    requires { ⌜ n ≤ longest ⌝ }
-    ensures { λ r. ⌜ r ≡ hasLane n call round lane ⌝ }
-{
-    if call == 0 {
-        return false;
-    }
-    if 2 * ((n + 15) / 16) + 2 < call as usize {
-        return false;
-    }
-    if round == 0 {
-        return false;
-    }
-    if PAIRS < round as usize {
-        return false;
-    }
-    lane < 3
 }
 
 // Writes a lane of the sealing that the link would do next.
@@ -90,7 +74,14 @@ pub fn report(
     if tape.len() < tape_need(n) {
         return ReportAnswer::ShortTape;
     }
-    if !has_lane(n, call, round, lane) {
+    let calls = call_count(n);
+    if !within(1, calls, call) {
+        return ReportAnswer::BadCall;
+    }
+    if !within(1, PAIRS, round) {
+        return ReportAnswer::BadRound;
+    }
+    if !within(0, 2, lane) {
         return ReportAnswer::BadLane;
     }
     if out.len() < 48 {

@@ -1,3 +1,4 @@
 pub mod Run
 pub mod OneTape
 pub mod Walking
+pub mod Lanes

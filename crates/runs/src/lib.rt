@@ -8,11 +8,20 @@ ghost use Rattle.masking.specs.Shares.{sharesIn, add as addShares, at, pairSize
 ghost use Rattle.masking.specs.Call.{pairCount, callSize};
 ghost use Rattle.shares.specs.Packed.{sharesOf};
 ghost use Rattle.runs.specs.Walk.{looked, Stepped};
+ghost use Rattle.runs.specs.Lanes.{within};
 
 // The call and its stage to be shown, numbered from 1.
 pub struct Watch {
     pub call: usize,
     pub stage: usize,
+}
+
+// Whether the number of a call, a stage or a lane is one of `low` to `high`.
+pub fn within(low: usize, high: usize, number: u32) -> bool
+    ensures { λ r. ⌜ r ≡ within low high number ⌝ }
+{
+    let n = number as usize;
+    low <= n && n <= high
 }
 
 // What a stage shows: the state's shares just after its masks, and the key's shares.
