@@ -199,8 +199,7 @@ pub fn ranges(tally: &mut Tally) {
             for round in [0, 1, 2, 34, 35, 36, 37, 256 + 1, 65_536 + 1, 0x8000_0001, u32::MAX] {
                 for lane in [0, 1, 2, 3, 4, 256, 65_536, 0x8000_0000, u32::MAX] {
                     let answer = match (call, round, lane) {
-                        (0, _, _) => BAD_CALL,
-                        _ if call > calls => BAD_CALL,
+                        _ if !(1..=calls).contains(&call) => BAD_CALL,
                         (_, 1..=35, 0..=2) => 0,
                         (_, 1..=35, _) => BAD_LANE,
                         _ => BAD_ROUND,
@@ -248,11 +247,6 @@ pub fn lengths(tally: &mut Tally) {
     }
 }
 
-/// The number of the call past a sealing's last, for n blocks 2n+3.
-fn past_last(report: &Report) -> u32 {
-    2 * report.message.len().div_ceil(16) as u32 + 3
-}
-
 /// The refusals, alone and together.
 pub fn refusals(tally: &mut Tally) {
     for length in [0, 17] {
@@ -273,7 +267,14 @@ pub fn refusals(tally: &mut Tally) {
                 (NUMBERS_USED, &[|call| links::set_last(&mut call.link, u32::MAX)]),
                 (LONG_MESSAGE, &[|call| call.message.resize(257, 1), |call| call.message.resize(65_536, 3)]),
                 (SHORT_TAPE, &[|call| call.tape.clear(), |call| call.tape.truncate(call.tape.len() - 1)]),
-                (BAD_CALL, &[|call| call.call = 0, |call| call.call = past_last(call), |call| call.call = u32::MAX]),
+                (
+                    BAD_CALL,
+                    &[
+                        |call| call.call = 0,
+                        |call| call.call = shares::call_count(call.message.len()) as u32 + 1,
+                        |call| call.call = u32::MAX,
+                    ],
+                ),
                 (BAD_ROUND, &[|call| call.round = 0, |call| call.round = 36, |call| call.round = u32::MAX]),
                 (BAD_LANE, &[|call| call.lane = 3, |call| call.lane = u32::MAX]),
                 (SHORT_OUTPUT, &[|call| call.out.clear(), |call| call.out.truncate(47)]),

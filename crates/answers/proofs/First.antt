@@ -1,7 +1,9 @@
 -- A refusal's number is that of the first cause that applies, and of no other; an answer accepts where none applies.
 -- Assumes nothing.
-use Rattle.prelude.proofs.{_≡_, refl, sym, ap, _∙_, subst, _↔_, Bool, true, false, not, cond, List, [], _∷_, _++_, ℕ, zero, suc, _≤_, _<_}
-use Rattle.prelude.proofs.{arith, T, eqb, ltb, take, drop, eq-eqb, ne-eqb, lt-ltb, le-ltb, le-leb, lt-leb, false≢true}
+use Rattle.prelude.proofs.{_≡_, refl, sym, ap, _∙_, subst, _↔_, Bool, true, false, not, cond, _&&_, List, [], _∷_, _++_, ℕ, zero, suc, _≤_}
+use Rattle.prelude.proofs.{_<_, arith, T, eqb, ltb, take, drop, eq-eqb, ne-eqb, lt-ltb, le-ltb, le-leb, lt-leb, eqb-false, not-true}
+use Rattle.prelude.proofs.{false≢true}
+use Rattle.blocks.proofs.Same.{both-true}
 use Rattle.answers.specs.Answer.{Answer, done, refused, Cause, _when_, first, numberOf, valuesOf, Accepts, ifDone}
 use Rattle.answers.specs.Answer.{FirstOf, here, later, NoneOf}
 
@@ -11,8 +13,11 @@ refused-first n cs a (here {b = false} t) = absurd t
 refused-first n cs a (later {b = true} t f) = absurd t
 refused-first n cs a (later {b = false} {cs = ds} t f) = refused-first n ds a f
 
+done-refused : (n : ℕ) (vs : List ℕ) → done vs ≡ refused n → ⊥
+done-refused n vs e = let z : _≡_ {A = ℕ} 0 1 = cc in omega arith
+
 first-refused : (n : ℕ) (cs : List Cause) (vs : List ℕ) → first cs (done vs) ≡ refused n → FirstOf n cs
-first-refused n [] vs e = absurd (let z : _≡_ {A = ℕ} 0 1 = cc in omega arith)
+first-refused n [] vs e = absurd (done-refused n vs e)
 first-refused n ((m when true) ∷ cs) vs e = let z : n ≡ m = cc in subst (λ (k : ℕ). FirstOf n ((k when true) ∷ cs)) z (here tt)
 first-refused n ((m when false) ∷ cs) vs e = later tt (first-refused n cs vs e)
 
@@ -23,27 +28,24 @@ refused-exactly n cs vs = (first-refused n cs vs, refused-first n cs (done vs))
 -- ---- a number that one cause alone has
 
 -- no cause has the number n
-abbrev pub Lacks : ℕ → List Cause → Type 0
-Lacks n [] = Unit {0}
-Lacks n ((m when b) ∷ cs) = T (not (eqb m n)) × Lacks n cs
+abbrev pub lacks : ℕ → List Cause → Bool
+lacks n [] = true
+lacks n ((m when b) ∷ cs) = not (eqb m n) && lacks n cs
 
-differs : (m n : ℕ) → T (not (eqb m n)) → m ≡ n → ⊥
-differs m n h e = subst (λ (b : Bool). T (not b)) (eq-eqb m n e) h
-
-lacks-refused : (n : ℕ) (cs : List Cause) (vs : List ℕ) → Lacks n cs → first cs (done vs) ≡ refused n → ⊥
-lacks-refused n [] vs l e = let z : _≡_ {A = ℕ} 0 1 = cc in omega arith
-lacks-refused n ((m when true) ∷ cs) vs l e = differs m n (l .0) cc
-lacks-refused n ((m when false) ∷ cs) vs l e = lacks-refused n cs vs (l .1) e
+lacks-refused : (n : ℕ) (cs : List Cause) (vs : List ℕ) → lacks n cs ≡ true → first cs (done vs) ≡ refused n → ⊥
+lacks-refused n [] vs l e = done-refused n vs e
+lacks-refused n ((m when true) ∷ cs) vs l e = eqb-false m n (not-true (eqb m n) (both-true (not (eqb m n)) (lacks n cs) l .0)) cc
+lacks-refused n ((m when false) ∷ cs) vs l e = lacks-refused n cs vs (both-true (not (eqb m n)) (lacks n cs) l .1) e
 
 -- it is answered exactly where its cause applies and none before it does
-pub refused-here : (n : ℕ) (b : Bool) (cs : List Cause) (vs : List ℕ) → Lacks n cs
+pub refused-here : (n : ℕ) (b : Bool) (cs : List Cause) (vs : List ℕ) → lacks n cs ≡ true
     → first ((n when b) ∷ cs) (done vs) ≡ refused n ↔ b ≡ true
 refused-here n true cs vs l = (λ e. refl, λ e. refl)
 refused-here n false cs vs l = (λ e. absurd (lacks-refused n cs vs l e), λ e. absurd (false≢true e))
 
-pub refused-later : (n m : ℕ) (b : Bool) (cs : List Cause) (vs : List ℕ) → T (not (eqb m n))
+pub refused-later : (n m : ℕ) (b : Bool) (cs : List Cause) (vs : List ℕ) → eqb m n ≡ false
     → first ((m when b) ∷ cs) (done vs) ≡ refused n ↔ ((b ≡ false) × (first cs (done vs) ≡ refused n))
-refused-later n m true cs vs h = (λ e. absurd (differs m n h cc), λ e. absurd (false≢true (sym (e .0))))
+refused-later n m true cs vs h = (λ e. absurd (eqb-false m n h cc), λ e. absurd (false≢true (sym (e .0))))
 refused-later n m false cs vs h = (λ e. (refl, e), λ e. e .1)
 
 -- ---- the cause at place k, from 0, is the first that applies
@@ -80,14 +82,14 @@ none-both (suc k) ((n when b) ∷ cs) h l = (h .0, none-both k cs (h .1) l)
 
 pub refused-before : (n : ℕ) (cs ds : List Cause) (vs : List ℕ) (a : Answer) → first cs (done vs) ≡ refused n
     → first (cs ++ ds) a ≡ refused n
-refused-before n [] ds vs a e = absurd (let z : _≡_ {A = ℕ} 0 1 = cc in omega arith)
+refused-before n [] ds vs a e = absurd (done-refused n vs e)
 refused-before n ((m when true) ∷ cs) ds vs a e = e
 refused-before n ((m when false) ∷ cs) ds vs a e = refused-before n cs ds vs a e
 
 pub done-before : (cs ds : List Cause) (vs ws : List ℕ) (a : Answer) → first cs (done vs) ≡ done ws
     → (vs ≡ ws) × (first (cs ++ ds) a ≡ first ds a)
 done-before [] ds vs ws a e = (ap valuesOf e, refl)
-done-before ((m when true) ∷ cs) ds vs ws a e = absurd (let z : _≡_ {A = ℕ} 0 1 = cc in omega arith)
+done-before ((m when true) ∷ cs) ds vs ws a e = absurd (done-refused m ws (sym e))
 done-before ((m when false) ∷ cs) ds vs ws a e = done-before cs ds vs ws a e
 
 -- ---- an answer's number tells whether the work was done

@@ -1,6 +1,6 @@
 -- When sealing and the report are done: no cause of a refusal applies. Assumes nothing.
-use Rattle.prelude.proofs.{_≡_, ap, _∙_, true, not, List, [], _∷_, ℕ, _≤_, _<_, arith, length, drop, ltb-false, eqb-false, not-false}
-use Rattle.prelude.proofs.{le-ltb, eq-eqb, ne-eqb}
+use Rattle.prelude.proofs.{_≡_, sym, ap, _∙_, subst, true, not, List, [], _∷_, ℕ, _≤_, _<_, arith, length, drop, ltb-false}
+use Rattle.prelude.proofs.{eqb-false, not-false, le-ltb, eq-eqb, ne-eqb}
 use Rattle.blocks.specs.Bytes.{blockCount}
 use Rattle.answers.specs.Answer.{Cause, done, first, NoneOf}
 use Rattle.answers.proofs.First.{done-none, done-before, accepts-none, none-accepts}
@@ -8,8 +8,8 @@ use Rattle.links.specs.Record.{standard, greatest, longest, recordSize}
 use Rattle.links.specs.declared.Sender.{Sender}
 use Rattle.plain.specs.Entry.{plainKeys, plainCauses, plainAnswer}
 use Rattle.masking.specs.Call.{pairCount}
-use Rattle.runs.specs.Lanes.{laneSize, laneCauses}
-use Rattle.runs.proofs.Lanes.{none-exactly}
+use Rattle.runs.specs.Lanes.{laneSize, laneCauses, TellsNumber}
+use Rattle.runs.proofs.Lanes.{none-exactly, tells-number}
 use Rattle.calls.specs.Entry.{inputCauses, sealCauses, sealAnswer, reportAnswer}
 use Rattle.calls.specs.{Numbered.callCount, Numbered.tapeNeed, Demand.Accepted}
 
@@ -30,7 +30,7 @@ module _ (x : Sender) (m t : List ℕ) where
     ),
   )
 
-  none-sealable : (cs : List Cause) → NoneOf (inputCauses x m t cs) → Sealable x m t
+  pub none-sealable : (cs : List Cause) → NoneOf (inputCauses x m t cs) → Sealable x m t
   none-sealable cs h = record {
     keyed = not-false (x .keyed) (h .0);
     left = eqb-false (x .last) (greatest standard) (h .1 .0);
@@ -76,11 +76,14 @@ module _ (x : Sender) (m t : List ℕ) where
     causes = laneCauses (callCount (blockCount (length m))) pairCount k r i o
 
     -- its answer hangs on the numbers of the lane and on the room
-    pub report-answer : reportAnswer x m t k r i o ≡ first causes (done [])
+    report-answer : reportAnswer x m t k r i o ≡ first causes (done [])
     unfolding reportAnswer
     report-answer =
         let cs = inputCauses x m t [] in
         done-before cs causes [] [] (done []) (done-none cs (done []) (sealable-none [] S tt)) .1
+
+    pub report-tells : TellsNumber (callCount (blockCount (length m))) pairCount k r i o (reportAnswer x m t k r i o)
+    report-tells = subst (TellsNumber _ pairCount k r i o) (sym report-answer) (tells-number _ pairCount k r i o)
 
     pub reported : 1 ≤ k → k ≤ callCount (blockCount (length m)) → 1 ≤ r → r ≤ pairCount → i < 3 → laneSize ≤ o
         → reportAnswer x m t k r i o ≡ done []

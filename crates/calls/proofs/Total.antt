@@ -1,6 +1,6 @@
 -- When sealing and the report are accepted, what they return then, and that each refusal has exactly its cause and changes nothing.
 -- Assumes nothing.
-use Rattle.prelude.proofs.{_≡_, refl, sym, subst, _↔_, true, List, [], _∷_, ℕ, _+_, _^_, _≤_, _<_, decLt, arith, length, replicate}
+use Rattle.prelude.proofs.{_≡_, refl, sym, _↔_, true, List, [], _∷_, ℕ, _+_, _^_, _≤_, _<_, decLt, arith, length, replicate}
 use Rattle.prelude.proofs.{length-replicate}
 use Rattle.blocks.specs.Bytes.{Bytes, put, blockCount}
 use Rattle.blocks.proofs.Parts.{part-length, part-bytes}
@@ -14,8 +14,7 @@ use Rattle.calls.specs.Entry.{indexOf}
 use Rattle.calls.specs.Demand.{Formed, Accepted, AcceptedSealing}
 use Rattle.calls.specs.{Numbered.callCount, Numbered.tapeNeed, Sealed.sealingCalls, Sealed.sealedRecord}
 use Rattle.runs.specs.{Run.laneOf, Lanes.TellsNumber}
-use Rattle.runs.proofs.Lanes.{tells-number}
-use Rattle.calls.proofs.Accepted.{accepted, values, sealable, room, report-answer}
+use Rattle.calls.proofs.Accepted.{accepted, values, sealable, room, report-tells}
 
 -- ---- accepted
 
@@ -94,14 +93,12 @@ pub report-refused-exactly : (x : Sender) (m t : List ℕ) (k r i o n : ℕ)
 unfolding reportAnswer
 report-refused-exactly x m t k r i o n = refused-exactly n (reportCauses x m t k r i o) []
 
--- of the inputs of an accepted sealing: the report refuses under 6 exactly a call that is not one of 1 to 2n + 2, under 33 a round of a
--- call that is not one of 1 to 35, under 34 a lane of a round that is not one of 0 to 2, and accepts exactly the rest, if it has room
-pub report-tells-number : (S : AcceptedSealing) (k r i o : ℕ)
-    → TellsNumber (callCount (blockCount (length (S .message)))) pairCount k r i o (reportAnswer (S .link) (S .message) (S .tape) k r i o)
-report-tells-number S k r i o =
-    subst (TellsNumber _ pairCount k r i o)
-    (sym (report-answer _ _ _ k r i o (sealable (S .link) (S .message) (S .tape) (length (S .out)) (S .accepted))))
-    (tells-number _ pairCount k r i o)
+-- where sealing is accepted, with room for s bytes, the report of any call, round and lane, with room for o bytes, refuses under 6 exactly
+-- if the call is not one of 1 to 2n + 2; under 33 exactly if it is and the round is not one of 1 to 35; under 34 exactly if both are and
+-- the lane is not one of 0 to 2; under 4 exactly if all are and o is under 48; and accepts exactly if it is not
+pub report-tells-number : (x : Sender) (m t : List ℕ) (s : ℕ) → Accepted x m t s → (k r i o : ℕ)
+    → TellsNumber (callCount (blockCount (length m))) pairCount k r i o (reportAnswer x m t k r i o)
+report-tells-number x m t s A k r i o = report-tells x m t k r i o (sealable x m t s A)
 
 -- ---- a refusal leaves the link and every lent byte as they came
 

@@ -4,6 +4,13 @@ use sealing::SealAnswer;
 ghost use Prim.Native.Nat.{_≤_};
 ghost use lib.ListN.{length};
 
+// Prints where a lane is.
+fn place(call: u32, round: u32, lane: u32) {
+    show::number(call as u64);
+    show::number(round as u64);
+    show::number(lane as u64);
+}
+
 // Prints the number that the report of lane 0 of round 1 of call 1 gives.
 fn try_report(what: &[u8], link: Sender, message: &[u8], tape: &[u8], out: &mut [u8]) {
     let answer = reporting::report(link, message, tape, 1, 1, 0, out);
@@ -14,9 +21,7 @@ fn try_report(what: &[u8], link: Sender, message: &[u8], tape: &[u8], out: &mut 
 fn try_lane(link: Sender, tape: &[u8], call: u32, round: u32, lane: u32) {
     let answer = reporting::report(link, b"", tape, call, round, lane, &mut [0; 48]);
     show::word(b"report ");
-    show::number(call as u64);
-    show::number(round as u64);
-    show::number(lane as u64);
+    place(call, round, lane);
     show::tried(b"", answer.number() as u64);
 }
 
@@ -59,9 +64,7 @@ fn lane(link: Sender, message: &[u8], tape: &[u8], call: u32, round: u32, lane: 
     reporting::report(link, message, tape, call, round, lane, &mut out);
     show::word(b"lane ");
     show::number(message.len() as u64);
-    show::number(call as u64);
-    show::number(round as u64);
-    show::number(lane as u64);
+    place(call, round, lane);
     show::bytes(&out);
 }
 

@@ -1,12 +1,12 @@
 -- Which of a report's numbers is wrong, by the causes that its lane has. Assumes nothing.
-use Rattle.prelude.proofs.{_≡_, refl, sym, _↔_, Iff·trans, Iff·and, Iff·not, Bool, true, false, not, [], ℕ, _≤_, leb, drop}
-use Rattle.prelude.proofs.{leb-true, le-leb, ltb-false, le-ltb, false≢true}
+use Rattle.prelude.proofs.{_≡_, refl, sym, _∙_, _↔_, Iff·trans, Iff·and, Bool, true, false, not, List, [], _∷_, ℕ, _≤_, eqb, leb, ltb, drop}
+use Rattle.prelude.proofs.{leb-true, le-leb, ltb-true, lt-ltb, ltb-false, le-ltb, false≢true}
 use Rattle.blocks.proofs.Same.{both-true}
-use Rattle.answers.specs.Answer.{done, first, NoneOf}
-use Rattle.answers.proofs.First.{refused-here, refused-later, accepts-none, none-accepts}
+use Rattle.answers.specs.Answer.{done, refused, Cause, _when_, first, NoneOf}
+use Rattle.answers.proofs.First.{lacks, refused-here, refused-later, accepts-none, none-accepts}
 use Rattle.runs.specs.Lanes.{within, Within, laneSize, roundCauses, laneCauses, TellsNumber}
 
--- ---- a number in its range
+-- ---- a number in its range or not, by a test t of it
 
 is-within : (a b n : ℕ) → within a b n ≡ true ↔ Within a b n
 is-within a b n = (
@@ -14,37 +14,40 @@ is-within a b n = (
   λ h. simp (le-leb a n (h .0), le-leb n b (h .1)),
 )
 
-passed : (t : Bool) → not t ≡ false ↔ t ≡ true
-passed true = (λ e. refl, λ e. refl)
-passed false = (λ e. absurd (false≢true (sym e)), λ e. absurd (false≢true e))
+pub inside : (t : Bool) (a b n : ℕ) → t ≡ within a b n → not t ≡ false ↔ Within a b n
+inside true a b n e = (λ h. is-within a b n .0 (sym e), λ w. refl)
+inside false a b n e = (λ h. absurd (false≢true (sym h)), λ w. absurd (false≢true (e ∙ is-within a b n .1 w)))
 
-failed : (t : Bool) → not t ≡ true ↔ (t ≡ true → ⊥)
-failed true = (λ e. absurd (false≢true e), λ h. absurd (h refl))
-failed false = (λ e. false≢true, λ h. refl)
+pub outside : (t : Bool) (a b n : ℕ) → t ≡ within a b n → not t ≡ true ↔ (Within a b n → ⊥)
+outside true a b n e = (λ h. absurd (false≢true h), λ f. absurd (f (is-within a b n .0 (sym e))))
+outside false a b n e = (λ h w. false≢true (e ∙ is-within a b n .1 w), λ f. refl)
 
--- its cause, where it does not apply and where it does
-inside : (a b n : ℕ) → not (within a b n) ≡ false ↔ Within a b n
-inside a b n = Iff·trans (passed (within a b n)) (is-within a b n)
+-- ---- a number's own cause, and a cause before others
 
-outside : (a b n : ℕ) → not (within a b n) ≡ true ↔ (Within a b n → ⊥)
-outside a b n = Iff·trans (failed (within a b n)) (Iff·not (is-within a b n))
+told-here : (n a b x : ℕ) (cs : List Cause) → lacks n cs ≡ true
+    → first ((n when not (within a b x)) ∷ cs) (done []) ≡ refused n ↔ (Within a b x → ⊥)
+told-here n a b x cs l = Iff·trans (refused-here n _ cs [] l) (outside (within a b x) a b x refl)
 
--- ---- the causes of lane i of round r of call k
+told-later : (n m a b x : ℕ) (cs : List Cause) {A : Type 0} → eqb m n ≡ false → first cs (done []) ≡ refused n ↔ A
+    → first ((m when not (within a b x)) ∷ cs) (done []) ≡ refused n ↔ (Within a b x × A)
+told-later n m a b x cs h e = Iff·trans (refused-later n m _ cs [] h) (Iff·and (inside (within a b x) a b x refl) e)
+
+-- ---- lane i of round r of call k
 
 module _ (c p k r i o : ℕ) where
   pub none-exactly : NoneOf (laneCauses c p k r i o) ↔ (Within 1 c k × (Within 1 p r × (Within 0 2 i × (laneSize ≤ o))))
   none-exactly =
-      Iff·and (inside 1 c k) (Iff·and (inside 1 p r)
-      (Iff·and (inside 0 2 i) (λ h. ltb-false o laneSize (h .0), λ h. (le-ltb o laneSize h, tt))))
+      Iff·and (inside (within 1 c k) 1 c k refl) (Iff·and (inside (within 1 p r) 1 p r refl)
+      (Iff·and (inside (within 0 2 i) 0 2 i refl) (λ h. ltb-false o laneSize (h .0), λ h. (le-ltb o laneSize h, tt))))
 
   pub tells-number : TellsNumber c p k r i o (first (laneCauses c p k r i o) (done []))
   tells-number =
       let cs = roundCauses p r i o in
       record {
-        bad-call = Iff·trans (refused-here 6 _ cs [] (tt, (tt, (tt, tt)))) (outside 1 c k);
-        bad-round = Iff·trans (refused-later 33 6 _ cs [] tt)
-            (Iff·and (inside 1 c k) (Iff·trans (refused-here 33 _ (drop 1 cs) [] (tt, (tt, tt))) (outside 1 p r)));
-        bad-lane = Iff·trans (refused-later 34 6 _ cs [] tt) (Iff·and (inside 1 c k) (Iff·trans (refused-later 34 33 _ (drop 1 cs) [] tt)
-            (Iff·and (inside 1 p r) (Iff·trans (refused-here 34 _ (drop 2 cs) [] (tt, tt)) (outside 0 2 i)))));
+        bad-call = told-here 6 1 c k cs refl;
+        bad-round = told-later 33 6 1 c k cs refl (told-here 33 1 p r (drop 1 cs) refl);
+        bad-lane = told-later 34 6 1 c k cs refl (told-later 34 33 1 p r (drop 1 cs) refl (told-here 34 0 2 i (drop 2 cs) refl));
+        no-room = told-later 4 6 1 c k cs refl (told-later 4 33 1 p r (drop 1 cs) refl (told-later 4 34 0 2 i (drop 2 cs) refl
+            (Iff·trans (refused-here 4 (ltb o laneSize) [] [] refl) (ltb-true o laneSize, lt-ltb o laneSize))));
         shown = Iff·trans (accepts-none (laneCauses c p k r i o) [] tt, none-accepts (laneCauses c p k r i o) []) none-exactly;
       }
