@@ -73,16 +73,14 @@ static void put_xor(uint8_t *out, const uint8_t *text, size_t width, packed stre
         out[i] = text[i] ^ key[i];
 }
 
-/* CMAC's doubling: shifted left by one bit, and 0x87 added where the highest bit was set. */
+/* CMAC's doubling: shifted left by one bit, and the highest bit times 135 added to the last byte. */
 static packed doubled(packed s)
 {
     uint8_t b[BLOCK], r[BLOCK];
     unpack(s, b);
     for (int i = 0; i < 15; i++)
         r[i] = (uint8_t)(b[i] << 1 | b[i + 1] >> 7);
-    r[15] = (uint8_t)(b[15] << 1);
-    if (b[0] >= 0x80)
-        r[15] ^= 0x87;
+    r[15] = (uint8_t)(b[15] << 1 ^ (b[0] >> 7) * 135);
     return pack(r);
 }
 

@@ -57,8 +57,8 @@ extern "C" {
 
 #define RASPPUCE_VERSION_MAJOR 2
 #define RASPPUCE_VERSION_MINOR 0
-#define RASPPUCE_VERSION_PATCH 0
-#define RASPPUCE_VERSION       "2.0.0"
+#define RASPPUCE_VERSION_PATCH 1
+#define RASPPUCE_VERSION       "2.0.1"
 
 /* ---- answers: success, refusals from the input (1 to 10), from the link's state (20 to 22), of
  * bodies (30 to 32), and of a report's round and lane (33 and 34) */

@@ -1,6 +1,6 @@
 -- XOR of byte lists: its laws, those of a group on blocks; and which lists are bytes. Assumes nothing.
 use Rattle.prelude.proofs.{_≡_, refl, sym, ap, ap₂, _∙_, List, [], _∷_, _++_, ℕ, zero, suc, _+_, _≤_, _<_, min, arith, bitXor, xor-zero-r}
-use Rattle.prelude.proofs.{xor-comm, xor-self, xor-lt, length, take, drop, getD, replicate, getD-drop}
+use Rattle.prelude.proofs.{xor-comm, xor-self, xor-lt, length, take, drop, getD, set, replicate, getD-drop}
 use Rattle.bits.proofs.Laws.{xor-assoc}
 use Rattle.blocks.specs.Bytes.{Bytes, Block, _⊕_, zeros}
 
@@ -96,6 +96,14 @@ unfolding _⊕_
 ⊕-replicate n [] h = refl
 ⊕-replicate zero (x ∷ xs) h = absurd (omega arith)
 ⊕-replicate (suc n) (x ∷ xs) h = ap₂ _∷_ (xor-zero-r x) (⊕-replicate n xs (omega arith))
+
+-- v XORed into element k alone
+pub set-⊕ : (j k v : ℕ) (a : List ℕ) → k < length a → length a ≤ suc k + j
+    → set a k (bitXor (getD a k 0) v) ≡ a ⊕ (replicate k 0 ++ (v ∷ replicate j 0))
+unfolding _⊕_
+set-⊕ j k v [] h l = absurd (omega arith)
+set-⊕ j zero v (x ∷ xs) h l = ap (λ (z : List ℕ). bitXor x v ∷ z) (sym (⊕-replicate j xs (omega arith)))
+set-⊕ j (suc k) v (x ∷ xs) h l = ap₂ _∷_ (sym (xor-zero-r x)) (set-⊕ j k v xs (omega arith) (omega arith))
 
 ⊕-same : (a : List ℕ) → a ⊕ a ≡ replicate (length a) 0
 unfolding _⊕_

@@ -15,7 +15,7 @@ use Rattle.links.proofs.Record.{counter-block}
 use Rattle.plain.specs.Plain.{crypted, authenticated, macOf, plainRecord}
 use Rattle.masking.specs.Shares.{Shares, Blocks, join, add, each, only, sharesIn, Reader}
 use Rattle.masking.specs.{Stages.plainAfter, Call.encryption, Call.pairCount, Call.plainEncryption}
-use Rattle.masking.proofs.Joins.{Linear, linear-∘, join-add, join-only, join-zeros, join-map}
+use Rattle.masking.proofs.Joins.{Linear, join-add, join-only, join-zeros, join-map}
 use Rattle.masking.proofs.{Shape.Reads, Encryption.encryption-blocks, Encryption.encryption-joins, Encryption.plain-encrypts}
 use Rattle.runs.specs.Run.{Run, outputOf}
 use Rattle.runs.proofs.Run.{output-join}
@@ -68,8 +68,9 @@ cut-completed p b h q = elim (decLt (length p) 16) [
 
 -- ---- the subkeys
 
-doubled-linear : Linear doubled
-doubled-linear = record { f-block = λ a p. doubled-block a; f-⊕ = λ a b p q. doubled-⊕ p q }
+-- doubling each of three shares doubles their XOR
+pub doubled-join : (s : Shares) → Blocks s → join (each doubled s) ≡ doubled (join s)
+doubled-join = join-map (record { f-block = λ a p. doubled-block a; f-⊕ = λ a b p q. doubled-⊕ p q })
 
 cond-⊕ : (t : Bool) (a b c d : List ℕ) → cond t a b ⊕ cond t c d ≡ cond t (a ⊕ c) (b ⊕ d)
 cond-⊕ true a b c d = refl
@@ -156,13 +157,13 @@ module _ (x : Sender) (m : List ℕ) (F : Formed x) (b : Bytes m) where
         made : Shares
         made = f (callNumber n sub)
 
-        zero-join : join made ≡ encrypt KM zeros
-        zero-join = fj sub (call-sub n) h
+        first-join : join (each doubled made) ≡ subkey₁ (encrypt KM)
+        first-join = doubled-join made (fb _) ∙ ap doubled (fj sub (call-sub n) h)
 
         once : (t : Bool) → join (each (λ l. cond t (doubled l) (doubled (doubled l))) made)
             ≡ cond t (subkey₁ (encrypt KM)) (subkey₂ (encrypt KM))
-        once true = join-map doubled-linear made (fb _) ∙ ap doubled zero-join
-        once false = join-map (linear-∘ doubled-linear doubled-linear) made (fb _) ∙ ap (λ (l : List ℕ). doubled (doubled l)) zero-join
+        once true = first-join
+        once false = doubled-join (each doubled made) (λ i. doubled-block (made i)) ∙ ap doubled first-join
 
     chain-join : (j : ℕ) → j ≤ n → n + 2 + j ≤ k → join (chain x m f j) ≡ Cmac.chain (encrypt KM) zeros whole j
     unfolding chain Cmac.chain

@@ -49,12 +49,6 @@ join-map {f} h s p =
     sym (h .f-⊕ (s i₀) (s i₁ ⊕ s i₂) (p i₀) (⊕-block (p i₁) (p i₂))
     ∙ ap (λ (l : List ℕ). f (s i₀) ⊕ l) (h .f-⊕ (s i₁) (s i₂) (p i₁) (p i₂)))
 
-pub linear-∘ : {f g : List ℕ → List ℕ} → Linear f → Linear g → Linear (λ a. f (g a))
-linear-∘ {f} {g} p q = record {
-  f-block = λ a h. p .f-block (g a) (q .f-block a h);
-  f-⊕ = λ a b h k. ap f (q .f-⊕ a b h k) ∙ p .f-⊕ (g a) (g b) (q .f-block a h) (q .f-block b k);
-}
-
 pub rearranged-linear : (p : ℕ → ℕ) → Linear (rearranged p)
 rearranged-linear p = record { f-block = λ a h. rearranged-block p a; f-⊕ = rearranged-⊕ p }
 

@@ -4,11 +4,10 @@ ghost use mathlib.Core.Path.{_≡_};
 ghost use Prim.Native.Nat.{_+_, _-_, _*_, _≤_, _<_, min};
 ghost use lib.ListN.{length};
 ghost use Rattle.blocks.specs.Bytes.{_⊕_, part, put, piece};
-ghost use Rattle.modes.specs.Cmac.{padded, doubled};
+ghost use Rattle.modes.specs.Cmac.{shifted, doubled, padded};
 
-// The block shifted left by one bit, and 0x87 added where the highest bit was set.
-pub fn double(b: [u8; 16]) -> [u8; 16]
-    ensures { λ r. ⌜ r ≡ doubled b ⌝ }
+fn shift(b: [u8; 16]) -> [u8; 16]
+    ensures { λ r. ⌜ r ≡ shifted b ⌝ }
 {
     let mut r = [0u8; 16];
     let mut i = 0;
@@ -16,12 +15,16 @@ pub fn double(b: [u8; 16]) -> [u8; 16]
         r[i] = (b[i] << 1) ^ (b[i + 1] >> 7);
         i += 1;
     }
-    let last = b[15] << 1;
-    if b[0] < 128 {
-        r[15] = last;
-        return r;
-    }
-    r[15] = last ^ 0x87;
+    r[15] = b[15] << 1;
+    r
+}
+
+// Shifted left by one bit, and the highest bit times 135 XORed into the last byte: the same steps for every block.
+pub fn double(b: [u8; 16]) -> [u8; 16]
+    ensures { λ r. ⌜ r ≡ doubled b ⌝ }
+{
+    let mut r = shift(b);
+    r[15] = r[15] ^ ((b[0] >> 7) * 135);
     r
 }
 

@@ -1,11 +1,11 @@
--- Values to hold: each row has what the definitions give, and the value that the scope states. Assumes nothing.
+-- Values to hold: each row has what the definitions give, and what it has to be. Assumes nothing.
 use mathlib.Core.Path.{_≡_}
 use mathlib.Core.List.{List, [], _∷_, _++_}
 use Prim.Native.Nat.{ℕ, _+_, _*_}
 use lib.Dec.{eqb}
 use lib.IntN.{pos, negsuc}
 use lib.ListN.{replicate}
-use Rattle.blocks.specs.Bytes.{zeros}
+use Rattle.blocks.specs.Bytes.{zeros, bigEndian}
 use Rattle.blocks.specs.Bits.{blockOf}
 use Rattle.body.specs.Words.{words}
 use Rattle.body.specs.Mark.{markIn, written, values, markWith}
@@ -55,8 +55,10 @@ rows =
     ∷ (permBits (onlyBit 127) is onlyBit 31)
     -- the key rotated by one
     ∷ (rotated 1 (onlyBit 0) is onlyBit 127)
-    -- CMAC's doubling
+    -- CMAC's doubling; L, K1 and K2 of NIST's first example
     ∷ (doubled (0x80 ∷ replicate 15 0x00) is (replicate 15 0x00 ++ (0x87 ∷ [])))
+    ∷ (doubled (bigEndian 16 0x7df76b0c1ab899b33e42f047b91b546f) is bigEndian 16 0xfbeed618357133667c85e08f7236a8de)
+    ∷ (doubled (bigEndian 16 0xfbeed618357133667c85e08f7236a8de) is bigEndian 16 0xf7ddac306ae266ccf90bc11ee46d513b)
     -- counter block 6 and a record of the link number 0x01020304 and the sequence number 5
     ∷ (counterBlock 0x01020304 5 6 is (1 ∷ 2 ∷ 3 ∷ 4 ∷ 0 ∷ 0 ∷ 0 ∷ 0 ∷ 0 ∷ 0 ∷ 0 ∷ 5 ∷ 0 ∷ 0 ∷ 0 ∷ 6 ∷ []))
     ∷ (recordOf standard 0x01020304 5 (0xaa ∷ []) (replicate 16 0xbb) is (1 ∷ 2 ∷ 3 ∷ 4 ∷ 0 ∷ 0 ∷ 0 ∷ 5 ∷ 0xaa ∷ replicate 16 0xbb))
