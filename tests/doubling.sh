@@ -7,21 +7,21 @@
 # `modes::double` into the functions that call it, where the constant 135 shows it. Straight code is
 # a run of instructions that no jump, call or return leaves and no jump enters. The one around the
 # constant has to hold the doubling whole, with the highest bits of all sixteen bytes moved, each by
-# a shift of 7 or 31 places, and none of its instructions may look at a flag.
+# a shift of 7 or 31 places. Its function may have no instruction that looks at a flag, but for five
+# jumps of `ctrmac::mac`, each by the text's length.
 set -euo pipefail
 
-awk -v doubling='ctrmac::first_subkey ctrmac::mac inputs::double_share' '
+awk -v doubling='ctrmac::first_subkey=0 ctrmac::mac=5 inputs::double_share=0' '
     # Looks at straight code, from instruction `first` to `last`, if it has the constant.
-    function look(first, last,    k, here, moved, flags) {
+    function look(first, last,    k, here, moved) {
         for (k = first; k <= last; k++) {
             if (does[k] ~ /\$0xf*87,/) here = 1
             if (does[k] ~ /^(shr|sar) +\$0x(7|1f),/) moved++
-            if (does[k] ~ /^(cmov|set|adc|sbb|rcl|rcr)/) flags = flags ", " does[k]
         }
         if (!here) return
-        printf "%s: %d instructions in a row, %d highest bits moved%s\n", of[first], last - first + 1, moved, flags
+        printf "%s: %d instructions in a row, %d highest bits moved\n", of[first], last - first + 1, moved
         places[of[first]]++
-        straight[of[first]] += moved >= 16 && flags == ""
+        whole[of[first]] += moved >= 16
     }
     function fault(words) {
         print "FAILED " words
@@ -33,6 +33,7 @@ awk -v doubling='ctrmac::first_subkey ctrmac::mac inputs::double_share' '
         at[count] = substr($1, 1, length($1) - 1)
         does[count] = substr($0, index($0, "\t") + 1)
         if (does[count] ~ /^j/) entered[name, $3] = 1
+        if (does[count] ~ /^(j[^m]|cmov|set|adc|sbb|rcl|rcr)/) flags[name]++
     }
     END {
         first = 1
@@ -42,9 +43,10 @@ awk -v doubling='ctrmac::first_subkey ctrmac::mac inputs::double_share' '
                 first = k
             }
         for (k = split(doubling, listed, " "); k > 0; k--) {
-            name = listed[k]
-            if (places[name] == 1 && straight[name] == 1) passed++
-            else fault("the doubling in " name)
+            split(listed[k], part, "=")
+            name = part[1]
+            if (places[name] == 1 && whole[name] == 1 && flags[name] + 0 == part[2]) passed++
+            else fault("the doubling in " name ", which looks at a flag " flags[name] + 0 " times")
             delete places[name]
         }
         for (name in places) fault("a doubling in " name ", which is not listed")

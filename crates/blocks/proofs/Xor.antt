@@ -97,13 +97,13 @@ unfolding _⊕_
 ⊕-replicate zero (x ∷ xs) h = absurd (omega arith)
 ⊕-replicate (suc n) (x ∷ xs) h = ap₂ _∷_ (xor-zero-r x) (⊕-replicate n xs (omega arith))
 
--- v XORed into element k alone
-pub set-⊕ : (j k v : ℕ) (a : List ℕ) → k < length a → length a ≤ suc k + j
-    → set a k (bitXor (getD a k 0) v) ≡ a ⊕ (replicate k 0 ++ (v ∷ replicate j 0))
+-- v XORed into the last element
+pub set-last-⊕ : (k v : ℕ) (a : List ℕ) → length a ≡ suc k → set a k (bitXor (getD a k 0) v) ≡ a ⊕ (replicate k 0 ++ (v ∷ []))
 unfolding _⊕_
-set-⊕ j k v [] h l = absurd (omega arith)
-set-⊕ j zero v (x ∷ xs) h l = ap (λ (z : List ℕ). bitXor x v ∷ z) (sym (⊕-replicate j xs (omega arith)))
-set-⊕ j (suc k) v (x ∷ xs) h l = ap₂ _∷_ (sym (xor-zero-r x)) (set-⊕ j k v xs (omega arith) (omega arith))
+set-last-⊕ k v [] e = absurd (omega arith)
+set-last-⊕ zero v (x ∷ []) e = refl
+set-last-⊕ zero v (x ∷ y ∷ l) e = absurd (omega arith)
+set-last-⊕ (suc k) v (x ∷ l) e = ap₂ _∷_ (sym (xor-zero-r x)) (set-last-⊕ k v l (omega arith))
 
 ⊕-same : (a : List ℕ) → a ⊕ a ≡ replicate (length a) 0
 unfolding _⊕_

@@ -1,7 +1,7 @@
 -- `double` meets its contract. Assumes nothing.
 use Rattle.prelude.proofs.{ap, _∙_, List, ℕ, _<_, arith, getD, w8, Fits, needs}
 use Rattle.blocks.specs.Bytes.{_⊕_}
-use Rattle.blocks.proofs.Xor.{set-⊕}
+use Rattle.blocks.proofs.Xor.{set-last-⊕}
 use Rattle.modes.specs.Doubling.{product}
 use Rattle.modes.proofs.Doubled.{product-added}
 use Rattle.modes.proofs.double as fn
@@ -11,7 +11,7 @@ top c = let f : Fits w8 (getD (c .before .args .t1) 0 0) = search needs in f .fi
 
 returns : fn.Tie.Need-returns
 returns c =
-    set-⊕ 0 15 _ _ (search needs) (search needs)
+    set-last-⊕ 15 _ _ (search needs)
     ∙ ap (λ (z : List ℕ). z ⊕ product (c .before .args .t1)) (c .shift .ensures)
     ∙ product-added _ (top c)
 
