@@ -13,15 +13,32 @@
 
 enum {
     BLOCKS = 100000,       /* random inputs of each block call */
-    PLAIN_RECORDS = 20000, /* of plain sealing, and of opening */
+    PLAIN_RECORDS = 20000, /* of plain sealing */
+    OPENINGS = 40000,      /* of opening */
+    ON_A_LINK = 40,        /* of these on one link, before there is a new one */
     SHARED_RECORDS = 2000, /* of shared sealing */
     BODIES = 200000,       /* of reading a body, and of writing one */
     KEYS = RASPPUCE_RECEIVER_KEY_BYTES,
     MESSAGE = RASPPUCE_MESSAGE_MOST + 1,
     RECORD = RASPPUCE_RECORD_MOST + 2,
     BODY = RASPPUCE_BODY_MOST + 4,
-    VALUES = RASPPUCE_VALUES_BYTES + 1
+    VALUES = RASPPUCE_VALUES_BYTES + 1,
+    LAST_AT = 5,   /* places in a link: its last number, of a receiver the highest accepted */
+    WINDOW_AT = 41 /* of a receiver only */
 };
+
+/* ---- numbers as bytes */
+
+static uint32_t big_endian_at(const uint8_t *bytes)
+{
+    return (uint32_t)bytes[0] << 24 | (uint32_t)bytes[1] << 16 | (uint32_t)bytes[2] << 8 | bytes[3];
+}
+
+static void put_big_endian(uint8_t *bytes, int len, uint64_t x)
+{
+    for (int i = 0; i < len; i++)
+        bytes[i] = (uint8_t)(x >> 8 * (len - 1 - i));
+}
 
 /* ---- random choices */
 
@@ -99,27 +116,82 @@ static int plain_sealings_agree(void)
     return 1;
 }
 
+/* ---- opening, on links that keep what they accepted */
+
+/* A highest number: near the first or the last one, or any. */
+static uint32_t random_highest(void)
+{
+    switch (random_below(3)) {
+    case 0:  return (uint32_t)random_below(100);
+    case 1:  return UINT32_MAX - (uint32_t)random_below(100);
+    default: return (uint32_t)random_number();
+    }
+}
+
+/* Numbers accepted before: the highest, and a window, with all its bits set at times. */
+static void random_window(uint8_t *link)
+{
+    put_big_endian(link + LAST_AT, 4, random_highest());
+    put_big_endian(link + WINDOW_AT, 8, random_below(4) == 0 ? UINT64_MAX : random_number());
+}
+
+/* A number for a record: mostly near the highest one, below or above, often where the window begins. */
+static uint32_t random_near(uint32_t highest)
+{
+    uint32_t away = (uint32_t)(random_below(2) == 0 ? 62 + random_below(4) : random_below(80));
+    switch (random_below(16)) {
+    case 0:  return 0;
+    case 1:  return random_sequence();
+    case 2:
+    case 3:
+    case 4:
+    case 5:  return highest + away;
+    default: return away <= highest ? highest - away : (uint32_t)random_below(highest + 1);
+    }
+}
+
+/* A record of the link, with one bit changed at times. Number 0 can't be sealed: it is put in by hand. */
+static void random_record(const uint8_t *keys, uint32_t number, uint32_t sequence, const uint8_t *message,
+                          size_t length, uint8_t *record)
+{
+    baseline_seal_plain(keys, KEYS, number, sequence == 0 ? 1 : sequence, message, length, record, RECORD);
+    if (sequence == 0)
+        put_big_endian(record + 4, 4, 0);
+    if (random_below(8) == 0)
+        record[random_below(length + RASPPUCE_RECORD_ADDS)] ^= (uint8_t)(1 << random_below(8));
+}
+
+/* A new link with new keys, left unkeyed at times; at times it has accepted numbers already. */
+static int random_receiver(uint8_t *keys, uint32_t number, uint8_t *link)
+{
+    random_bytes(keys, KEYS);
+    memset(link, 0, RASPPUCE_RECEIVER_BYTES);
+    uint32_t answer = random_below(8) == 0 ? RASPPUCE_OK
+        : rasppuce_key_receiver(link, RASPPUCE_RECEIVER_BYTES, number, keys, KEYS);
+    if (random_below(2) == 0)
+        random_window(link);
+    return answer == RASPPUCE_OK;
+}
+
+/* Records in any order on a link, some of them again. */
 static int openings_agree(void)
 {
-    for (int i = 0; i < PLAIN_RECORDS; i++) {
-        uint8_t keys[KEYS], message[MESSAGE], record[RECORD], a[MESSAGE], b[MESSAGE];
-        uint8_t link[RASPPUCE_RECEIVER_BYTES] = {0}, link_of_c[RASPPUCE_RECEIVER_BYTES];
+    uint8_t keys[KEYS] = {0}, link[RASPPUCE_RECEIVER_BYTES] = {0}, link_of_c[RASPPUCE_RECEIVER_BYTES] = {0};
+    uint32_t number = 0;
+    for (int i = 0; i < OPENINGS; i++) {
+        uint8_t message[MESSAGE], record[RECORD], a[MESSAGE], b[MESSAGE];
         size_t length = random_below(RASPPUCE_MESSAGE_MOST + 1), room = length == 0 ? 0 : random_room(length);
         size_t record_len = length + RASPPUCE_RECORD_ADDS;
-        uint32_t number = (uint32_t)random_number();
-        random_bytes(keys, KEYS);
+        if (i % ON_A_LINK == 0) {
+            number = (uint32_t)random_number();
+            if (!random_receiver(keys, number, link))
+                return differ("key receiver", i);
+            memcpy(link_of_c, link, sizeof link);
+        }
         random_bytes(message, MESSAGE);
         random_bytes(a, MESSAGE);
         memcpy(b, a, MESSAGE);
-        baseline_seal_plain(keys, KEYS, number, 1 + random_sequence() / 2, message, length, record, RECORD);
-        if (random_below(8) == 0)
-            record[random_below(record_len)] ^= (uint8_t)(1 << random_below(8));
-        if (random_below(8) != 0
-            && rasppuce_key_receiver(link, sizeof link, number, keys, KEYS) != RASPPUCE_OK)
-            return differ("key receiver", i);
-        if (random_below(8) == 0)
-            random_bytes(link + 5, 4);
-        memcpy(link_of_c, link, sizeof link);
+        random_record(keys, number, random_near(big_endian_at(link + LAST_AT)), message, length, record);
         uint32_t x = rasppuce_open(link, sizeof link, record, record_len, a, room);
         uint32_t y = baseline_open(link_of_c, sizeof link, record, record_len, b, room);
         if (x != y || memcmp(link, link_of_c, sizeof link) != 0 || memcmp(a, b, MESSAGE) != 0)
@@ -129,6 +201,8 @@ static int openings_agree(void)
     }
     return 1;
 }
+
+/* ---- shared sealing */
 
 /* The two keys that a sender's key shares join to. */
 static void join_keys(const uint8_t *shares, uint8_t *keys)
@@ -162,8 +236,7 @@ static int shared_sealings_agree(void)
         if (random_below(32) != 0
             && rasppuce_key_sender(link, sizeof link, number, key_shares, sizeof key_shares) != RASPPUCE_OK)
             return differ("key sender", i);
-        for (int j = 0; j < 4; j++)
-            link[5 + j] = (uint8_t)(last >> (24 - 8 * j));
+        put_big_endian(link + LAST_AT, 4, last);
         memcpy(link_of_c, link, sizeof link);
         uint32_t x = rasppuce_seal(link, sizeof link, message, length, tape, tape_len, a, room,
                                    shares, shares_room);
@@ -182,12 +255,6 @@ static int shared_sealings_agree(void)
 }
 
 /* ---- bodies */
-
-static void put_big_endian(uint8_t *bytes, int len, uint64_t x)
-{
-    for (int i = 0; i < len; i++)
-        bytes[i] = (uint8_t)(x >> 8 * (len - 1 - i));
-}
 
 /* An offset; at times one at a limit, or just outside. */
 static int32_t random_offset(void)
@@ -278,8 +345,9 @@ int all_agree(void)
         || !readings_agree() || !writings_agree())
         return 0;
     printf("The archive and C agree on %d random blocks in each block call, on %d\n"
-           "records plainly sealed, on %d opened and on %d sealed on shares, of 0 to\n"
-           "256 bytes, on %d bodies read and %d written, refused ones among them.\n\n",
-           BLOCKS, PLAIN_RECORDS, PLAIN_RECORDS, SHARED_RECORDS, BODIES, BODIES);
+           "records plainly sealed, on %d opened in any order and on %d sealed on\n"
+           "shares, of 0 to 256 bytes, on %d bodies read and %d written, refused\n"
+           "ones among them.\n\n",
+           BLOCKS, PLAIN_RECORDS, OPENINGS, SHARED_RECORDS, BODIES, BODIES);
     return 1;
 }

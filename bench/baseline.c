@@ -11,8 +11,9 @@ enum {
     BLOCK = 16,
     HEAD = 8,        /* link number and sequence number, in front of a record's ciphertext */
     LINK_NUMBER = 1, /* places in a link */
-    LINK_LAST = 5,
-    LINK_KEYS = 9
+    LINK_LAST = 5,   /* of a receiver: the highest number accepted */
+    LINK_KEYS = 9,
+    LINK_WINDOW = 41 /* of a receiver only */
 };
 
 /* ---- numbers and blocks as bytes */
@@ -28,6 +29,17 @@ static void put_number(uint8_t *bytes, uint32_t x)
     bytes[1] = (uint8_t)(x >> 16);
     bytes[2] = (uint8_t)(x >> 8);
     bytes[3] = (uint8_t)x;
+}
+
+static uint64_t wide_at(const uint8_t *bytes)
+{
+    return (uint64_t)number_at(bytes) << 32 | number_at(bytes + 4);
+}
+
+static void put_wide(uint8_t *bytes, uint64_t x)
+{
+    put_number(bytes, (uint32_t)(x >> 32));
+    put_number(bytes + 4, (uint32_t)x);
 }
 
 static packed counter_block(uint32_t number, uint32_t sequence, uint32_t i)
@@ -167,6 +179,33 @@ static int same_block(const uint8_t *a, const uint8_t *b)
     return differences == 0;
 }
 
+/* The anti-replay window: the highest number accepted, and a word; its bit k is for the number k below. */
+typedef struct {
+    uint32_t highest;
+    uint64_t accepted;
+} window;
+
+/* The number is 0 or below the window. */
+static int is_below(window w, uint32_t sequence)
+{
+    return sequence == 0 || (sequence < w.highest && w.highest - sequence >= RASPPUCE_WINDOW);
+}
+
+/* The number, which isn't below the window, is in it and was accepted. */
+static int is_repeated(window w, uint32_t sequence)
+{
+    return sequence <= w.highest && (w.accepted >> (w.highest - sequence) & 1) != 0;
+}
+
+/* The window with the number accepted, which is above it or in it. */
+static window with_accepted(window w, uint32_t sequence)
+{
+    if (sequence <= w.highest)
+        return (window){w.highest, w.accepted | (uint64_t)1 << (w.highest - sequence)};
+    uint32_t up = sequence - w.highest;
+    return (window){sequence, (up < RASPPUCE_WINDOW ? w.accepted << up : 0) | 1};
+}
+
 uint32_t baseline_open(uint8_t *link, size_t link_len, const uint8_t *record, size_t record_len,
                        uint8_t *message, size_t message_len)
 {
@@ -181,15 +220,20 @@ uint32_t baseline_open(uint8_t *link, size_t link_len, const uint8_t *record, si
     if (message_len < length)
         return RASPPUCE_OUTPUT;
     uint32_t sequence = number_at(record + 4);
-    if (sequence <= number_at(link + LINK_LAST))
-        return RASPPUCE_OLD_NUMBER;
+    window w = {number_at(link + LINK_LAST), wide_at(link + LINK_WINDOW)};
+    if (is_below(w, sequence))
+        return RASPPUCE_BELOW_WINDOW;
+    if (is_repeated(w, sequence))
+        return RASPPUCE_REPEATED;
     const uint8_t *ke = link + LINK_KEYS, *text = record + HEAD;
     uint8_t tag[BLOCK];
     put_tag(ke + BLOCK, number, sequence, text, length, tag);
     if (!same_block(tag, text + length))
         return RASPPUCE_TAG;
     crypt(ke, number, sequence, text, length, message);
-    put_number(link + LINK_LAST, sequence);
+    w = with_accepted(w, sequence);
+    put_number(link + LINK_LAST, w.highest);
+    put_wide(link + LINK_WINDOW, w.accepted);
     return RASPPUCE_OK;
 }
 
@@ -401,8 +445,7 @@ uint32_t baseline_read_body(const uint8_t *body, size_t body_len, uint8_t *value
         return RASPPUCE_OUTPUT;
     uint64_t seconds = (uint64_t)field(found[1]) << FIELD_BITS | field(found[2]);
     int has_offset = found[OFFSET_KIND] != 0;
-    put_number(values, (uint32_t)(seconds >> 32));
-    put_number(values + 4, (uint32_t)seconds);
+    put_wide(values, seconds);
     put_number(values + 8, field(found[3]));
     values[12] = (uint8_t)has_offset;
     put_number(values + 13, has_offset ? (uint32_t)minutes(found[OFFSET_KIND]) : 0);

@@ -112,7 +112,7 @@ static double seal_plain_ns(any_call *call, size_t size, int count)
     return (end - start) / count;
 }
 
-/* Opening: the link's 41 bytes are put back before each call, so that the same record is new again. */
+/* Opening: the link's 49 bytes are put back before each call, so that the same record is new again. */
 static double open_ns(any_call *call, size_t size, int count)
 {
     open_call *open = (open_call *)call;

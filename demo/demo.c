@@ -1,6 +1,6 @@
 /*
- * The first screen: a time mark is sealed, opened and read, and three wrong records are refused.
- * The exit status is 1 if anything is not as the text says.
+ * The first screen: a time mark is sealed, opened and read, two more arrive in the wrong order, and
+ * three wrong records are refused. The exit status is 1 if anything is not as the text says.
  */
 #include "link.h"
 #include "screen.h"
@@ -8,8 +8,13 @@
 #include <stdio.h>
 #include <string.h>
 
-/* The time mark of a second later, for record 2. */
-static const time_mark next_mark = {1772456710, QUARTER, 60, "2026-03-02 14:05:10.250 +01:00"};
+/* The records behind the first one, and their time marks, each a second later. */
+enum { SECOND, THIRD, FOURTH, LATER };
+
+static const time_mark later_marks[LATER] = {
+    {1772456710, QUARTER, 60, "2026-03-02 14:05:10.250 +01:00"},
+    {1772456711, QUARTER, 60, "2026-03-02 14:05:11.250 +01:00"},
+    {1772456712, QUARTER, 60, "2026-03-02 14:05:12.250 +01:00"}};
 
 enum { OTHER_LINK = 8 };
 
@@ -59,17 +64,17 @@ static void show_cipher(void)
 
 /* ---- keys */
 
+/* Where the keys begin in a link: behind a byte that says that it is keyed, and two numbers. */
+enum { KEYS_AT = 1 + RASPPUCE_NUMBER_BYTES + RASPPUCE_SEQUENCE_BYTES };
+
 /* Both ends of the link get their keys. */
 static void show_keys(both_ends *ends)
 {
     int keyed = key_both(ends, LINK);
-    const uint8_t *in_shares = ends->sender + sizeof ends->sender - sizeof ends->shares;
-    const uint8_t *whole = ends->receiver + sizeof ends->receiver - sizeof ends->keys;
-    printf("2 Link %d (one sender and its receiver) gets two keys: the receiver whole, the\n",
-           LINK);
-    end_line(printf("  sender as 3 shares each (parts; only all 3 together give the key)"),
-             keyed && memcmp(in_shares, ends->shares, sizeof ends->shares) == 0
-                   && memcmp(whole, ends->keys, sizeof ends->keys) == 0);
+    end_line(printf("2 Link %d: its receiver gets two keys, its sender 3 shares (parts) of each",
+                    LINK),
+             keyed && memcmp(ends->sender + KEYS_AT, ends->shares, sizeof ends->shares) == 0
+                   && memcmp(ends->receiver + KEYS_AT, ends->keys, sizeof ends->keys) == 0);
 }
 
 /* ---- sealing */
@@ -120,9 +125,7 @@ static void show_sealing(both_ends *ends, uint8_t record[RECORD_BYTES])
     end_line(printf("  Sealing it by shares or plainly (by whole keys) gives one record to send:"),
              sealed && memcmp(body, our_body, sizeof body) == 0 && fields_right(record, body)
                     && memcmp(record, plain, sizeof plain) == 0);
-    print_field("link", record, RASPPUCE_NUMBER_BYTES, "the link that it is for");
-    print_field("number", record + NUMBER_AT, RASPPUCE_SEQUENCE_BYTES,
-                "sequence number: 1, 2, 3 and on");
+    print_field("numbers", record, TEXT_AT, "link; sequence number 1, 2, ...");
     print_field("text", record + TEXT_AT, BODY_BYTES, "the body, hidden");
     print_field("tag", record + TAG_AT, RASPPUCE_TAG_BYTES, "check value, made with a key");
 }
@@ -164,35 +167,53 @@ static int seal_other(uint8_t record[RECORD_BYTES])
         && memcmp(opened, body, sizeof body) == 0;
 }
 
-/* Three records that the receiver has to refuse, and the next one, which it has to open. */
-static void show_refusals(both_ends *ends, const uint8_t first[RECORD_BYTES])
+/* The sender seals the records behind the first one. */
+static void seal_later(both_ends *ends, uint8_t later[LATER][RECORD_BYTES])
 {
-    uint8_t second[RECORD_BYTES] = {0}, damaged[RECORD_BYTES], other[RECORD_BYTES] = {0};
-    uint8_t body[BODY_BYTES] = {0};
-    expect(seal_next(ends, &next_mark, body, second), "record 2 was not sealed.");
+    uint8_t body[BODY_BYTES];
+    for (int i = SECOND; i < LATER; i++)
+        expect(seal_next(ends, &later_marks[i], body, later[i]), "a later record was not sealed.");
+}
+
+/* Records 3 and 2 arrive in this order; the receiver has to open both. */
+static void show_order(both_ends *ends, uint8_t later[LATER][RECORD_BYTES])
+{
+    show_opening(ends, later[THIRD], "5 Record 3 arrives before 2 (two cables):",
+                 later_marks[THIRD].time);
+    show_opening(ends, later[SECOND], "  Record 2 arrives late and opens too:   ",
+                 later_marks[SECOND].time);
+}
+
+/* Three records that the receiver has to refuse, and record 4, which it has to open. */
+static void show_refusals(both_ends *ends, uint8_t later[LATER][RECORD_BYTES])
+{
+    uint8_t damaged[RECORD_BYTES], other[RECORD_BYTES] = {0};
     expect(seal_other(other), "link 8 does not open its own record.");
-    memcpy(damaged, second, sizeof second);
+    memcpy(damaged, later[FOURTH], sizeof damaged);
     damaged[TEXT_AT] ^= 1;
 
-    int kept = show_refusal(ends, first, "5 Record 1 again", RASPPUCE_OLD_NUMBER,
+    int kept = show_refusal(ends, later[SECOND], "6 Record 2 again", RASPPUCE_REPEATED,
                             "an old record, sent once more (a replay), must not count again.");
-    kept &= show_refusal(ends, damaged, "6 Record 2, damaged", RASPPUCE_TAG,
+    kept &= show_refusal(ends, damaged, "7 Record 4, damaged", RASPPUCE_TAG,
                          "one bit of its text was flipped on the way; the tag shows it.");
-    kept &= show_refusal(ends, other, "7 A record of link 8", RASPPUCE_OTHER_LINK,
+    kept &= show_refusal(ends, other, "8 A record of link 8", RASPPUCE_OTHER_LINK,
                          "the receiver of link 8 opens it, the one of link 7 must not.");
     end_line(printf("  Each time the receiver gave out nothing and stayed as it was"), kept);
-    show_opening(ends, second, "8 So record 2, undamaged, still opens:", next_mark.time);
+    show_opening(ends, later[FOURTH], "9 So record 4, undamaged, still opens:",
+                 later_marks[FOURTH].time);
 }
 
 int main(void)
 {
     both_ends ends = {0};
-    uint8_t record[RECORD_BYTES] = {0};
+    uint8_t record[RECORD_BYTES] = {0}, later[LATER][RECORD_BYTES] = {{0}};
     printf("Rasppuce seals time marks: they travel hidden, and damage to them shows.\n");
     show_cipher();
     show_keys(&ends);
     show_sealing(&ends, record);
     show_opening(&ends, record, "4 The receiver opens it and reads", our_mark.time);
-    show_refusals(&ends, record);
+    seal_later(&ends, later);
+    show_order(&ends, later);
+    show_refusals(&ends, later);
     return end_screen();
 }

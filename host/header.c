@@ -15,6 +15,15 @@
 #if RASPPUCE_RECORD_MOST != RASPPUCE_MESSAGE_MOST + RASPPUCE_RECORD_ADDS
 #error "the longest record has the longest message"
 #endif
+#if RASPPUCE_SENDER_BYTES != 1 + 4 + 4 + 96
+#error "whether it is keyed, link number, last number, key shares"
+#endif
+#if RASPPUCE_RECEIVER_BYTES != 1 + 4 + 4 + 32 + 8
+#error "whether it is keyed, link number, highest number, keys, window"
+#endif
+#if RASPPUCE_WINDOW != 64
+#error "a bit of the window's 8 bytes for each number"
+#endif
 #if RASPPUCE_CALLS(0) != 2 || RASPPUCE_CALLS(1) != 4 || RASPPUCE_CALLS(16) != 4 || RASPPUCE_CALLS(17) != 6
 #error "two calls for each block, and two"
 #endif
@@ -40,11 +49,11 @@
 #error "no version"
 #endif
 
-/* The answers that there are: 0 to 10, 20 to 22 and 30 to 34. */
+/* The answers that there are: 0 to 10, 20 to 22 and 30 to 35. */
 static int is_answer(uint32_t number)
 {
-    return number <= RASPPUCE_SEQUENCE || (RASPPUCE_NOT_KEYED <= number && number <= RASPPUCE_OLD_NUMBER)
-        || (RASPPUCE_BODY_LENGTH <= number && number <= RASPPUCE_LANE);
+    return number <= RASPPUCE_SEQUENCE || (RASPPUCE_NOT_KEYED <= number && number <= RASPPUCE_REPEATED)
+        || (RASPPUCE_BODY_LENGTH <= number && number <= RASPPUCE_BELOW_WINDOW);
 }
 
 /* Every answer has words of its own, and no other number has any. */

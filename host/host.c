@@ -1,7 +1,7 @@
 /*
- * A rack's host in C: keys a pair of links, seals by shares and plainly, opens, writes and reads
- * bodies, and meets every refusal. It checks all that it sees; the exit status is 1 if anything
- * surprised it.
+ * A rack's host in C: keys a pair of links, seals by shares and plainly, opens in turn and out of it,
+ * writes and reads bodies, and meets every refusal. It checks all that it sees; the exit status is 1 if
+ * anything surprised it.
  *
  *     host                      does all that three times: with every slice before a page that can't
  *                               be touched, with every slice after one, and at odd addresses
@@ -127,6 +127,11 @@ static void put_number(uint8_t *bytes, uint32_t number)
         bytes[i] = (uint8_t)(number >> (24 - 8 * i));
 }
 
+static uint64_t word_at(const uint8_t *bytes)
+{
+    return (uint64_t)number_at(bytes) << 32 | number_at(bytes + 4);
+}
+
 /* The XOR of three blocks that stand one behind the other. */
 static void join(uint8_t *block, const uint8_t *shares)
 {
@@ -137,6 +142,12 @@ static void join(uint8_t *block, const uint8_t *shares)
 /* ---- the rack */
 
 enum { LINK = 7 }; /* the link's number */
+
+/* Places in a link; a sender has no window. */
+enum { NUMBER_AT = 1, LAST_AT = 5, KEYS_AT = 9, WINDOW_AT = 41 };
+
+/* Where the sequence number stands in a record. */
+enum { SEQUENCE_AT = RASPPUCE_NUMBER_BYTES };
 
 static slice keys;           /* KE, then KM */
 static slice key_shares;     /* three shares of KE, then three of KM */
@@ -174,6 +185,76 @@ static void set_up(void)
     take(&odd, 0);
 }
 
+/* ---- the numbers that a receiver has accepted, as the host keeps them, and what follows from them */
+
+enum { MOST_ACCEPTED = 512 };
+static uint32_t accepted[MOST_ACCEPTED];
+static unsigned accepted_count;
+
+static void accept(uint32_t number)
+{
+    if (accepted_count == MOST_ACCEPTED) {
+        printf("no room for the numbers accepted\n");
+        exit(2);
+    }
+    accepted[accepted_count++] = number;
+}
+
+static int was_accepted(uint32_t number)
+{
+    for (unsigned i = 0; i < accepted_count; i++)
+        if (accepted[i] == number)
+            return 1;
+    return 0;
+}
+
+static uint32_t highest_accepted(void)
+{
+    uint32_t highest = 0;
+    for (unsigned i = 0; i < accepted_count; i++)
+        if (accepted[i] > highest)
+            highest = accepted[i];
+    return highest;
+}
+
+/* Bit k is for the number k below the highest; numbers begin with 1. */
+static uint64_t window_of_accepted(void)
+{
+    uint64_t word = 0;
+    uint32_t highest = highest_accepted();
+    for (uint32_t k = 0; k < RASPPUCE_WINDOW && k < highest; k++)
+        word |= (uint64_t)was_accepted(highest - k) << k;
+    return word;
+}
+
+/* The answer to a sound record of this number. */
+static uint32_t answer_to(uint32_t number)
+{
+    if (number == 0 || (uint64_t)number + RASPPUCE_WINDOW <= highest_accepted())
+        return RASPPUCE_BELOW_WINDOW;
+    return was_accepted(number) ? RASPPUCE_REPEATED : RASPPUCE_OK;
+}
+
+/* The link has these numbers and no other. */
+static int window_right(const slice *link)
+{
+    return number_at(link->at + LAST_AT) == highest_accepted()
+        && word_at(link->at + WINDOW_AT) == window_of_accepted();
+}
+
+/* ---- keying */
+
+/* Keys a receiver, whatever stands in it. */
+static void key_receiver(slice *link, uint32_t number)
+{
+    mark(link);
+    check(rasppuce_key_receiver(LEND(*link), number, LEND(keys)) == RASPPUCE_OK, "keying a receiver");
+    check(link->at[0] == 1 && number_at(link->at + NUMBER_AT) == number
+          && memcmp(link->at + KEYS_AT, keys.at, keys.len) == 0, "a keyed receiver has its number and its keys");
+    check(number_at(link->at + LAST_AT) == 0 && word_at(link->at + WINDOW_AT) == 0,
+          "and has accepted no number");
+}
+
 /* Keys the sender with three shares of each key and both receivers with the joined keys. */
 static void key_links(void)
 {
@@ -181,13 +262,14 @@ static void key_links(void)
     join(keys.at, key_shares.at);
     join(keys.at + 16, key_shares.at + 48);
     check(rasppuce_key_sender(LEND(sender), LINK, LEND(key_shares)) == RASPPUCE_OK, "keying the sender");
-    check(rasppuce_key_receiver(LEND(receiver), LINK, LEND(keys)) == RASPPUCE_OK, "keying a receiver");
-    check(rasppuce_key_receiver(LEND(plain_receiver), LINK, LEND(keys)) == RASPPUCE_OK, "keying the other");
-    check(sender.at[0] == 1 && number_at(sender.at + 1) == LINK && number_at(sender.at + 5) == 0,
+    check(sender.at[0] == 1 && number_at(sender.at + NUMBER_AT) == LINK && number_at(sender.at + LAST_AT) == 0,
           "a keyed sender has its number, and 0 as the last one");
-    check(receiver.at[0] == 1 && number_at(receiver.at + 1) == LINK && number_at(receiver.at + 5) == 0,
-          "so has a keyed receiver");
+    key_receiver(&receiver, LINK);
+    key_receiver(&plain_receiver, LINK);
+    accepted_count = 0;
 }
+
+/* ---- sealing and opening */
 
 /* What an output has more than the result, where the rest has to stay as it was. */
 enum { SPARE = 16 };
@@ -211,7 +293,7 @@ static void fit_marked(slice *s, size_t len)
 /* One message by shares and plainly: the same record, and both receivers open it. */
 static void send(size_t len)
 {
-    uint32_t sequence = number_at(sender.at + 5) + 1;
+    uint32_t sequence = number_at(sender.at + LAST_AT) + 1;
     size_t record_len = len + RASPPUCE_RECORD_ADDS;
     prepare(len);
 
@@ -221,8 +303,8 @@ static void send(size_t len)
     check(answer == RASPPUCE_OK, "sealing by shares");
     check(untouched(&record, record_len), "nothing is written past the record");
     fit(&record, record_len);
-    check(number_at(sender.at + 5) == sequence, "the sender's last number goes up by one");
-    check(number_at(record.at) == LINK && number_at(record.at + 4) == sequence,
+    check(number_at(sender.at + LAST_AT) == sequence, "the sender's last number goes up by one");
+    check(number_at(record.at) == LINK && number_at(record.at + SEQUENCE_AT) == sequence,
           "a record begins with link number and sequence number");
     uint8_t tag[16];
     join(tag, tag_shares.at);
@@ -242,11 +324,188 @@ static void send(size_t len)
     fit_marked(&opened, len);
     answer = rasppuce_open(LEND(plain_receiver), LEND(plain_record), LEND(opened));
     check(answer == RASPPUCE_OK && memcmp(opened.at, message.at, len) == 0, "opening the plain one");
-    check(number_at(receiver.at + 5) == sequence && memcmp(receiver.at, plain_receiver.at, receiver.len) == 0,
+    accept(sequence);
+    check(window_right(&receiver) && memcmp(receiver.at, plain_receiver.at, receiver.len) == 0,
           "both receivers have accepted this number");
     printf("  message of %3lu bytes, number %lu: one record of %lu bytes, opened on both links\n",
            (unsigned long)len, (unsigned long)sequence, (unsigned long)record_len);
 }
+
+/* ---- records that arrive out of turn */
+
+enum { SHORT = 8 }; /* the length of their messages */
+
+/* A record, and the message in it. */
+typedef struct {
+    uint8_t message[SHORT], record[SHORT + RASPPUCE_RECORD_ADDS];
+} kept_record;
+
+static uint32_t sequence_of(const kept_record *k)
+{
+    return number_at(k->record + SEQUENCE_AT);
+}
+
+/* What was sealed: the message, and this record. */
+static void keep(kept_record *k, const slice *sealed)
+{
+    memcpy(k->message, message.at, SHORT);
+    memcpy(k->record, sealed->at, sizeof k->record);
+}
+
+/* A record sealed by shares, under the sender's next number. */
+static void keep_next(kept_record *k)
+{
+    prepare(SHORT);
+    fit(&record, sizeof k->record);
+    check(rasppuce_seal(LEND(sender), LEND(message), LEND(tape), LEND(record), LEND(tag_shares)) == RASPPUCE_OK,
+          "sealing by shares");
+    keep(k, &record);
+}
+
+enum { CHOSEN_LINK = LINK + 1 }; /* a link of its own for records of chosen numbers */
+
+/* The record of a number: the same one each time. None is sealed under 0, so that is put in by hand. */
+static void keep_chosen(kept_record *k, uint32_t number)
+{
+    uint32_t sealed = number == 0 ? 1 : number;
+    fit(&message, SHORT);
+    put_number(message.at, sealed);
+    put_number(message.at + 4, ~sealed);
+    fit(&plain_record, sizeof k->record);
+    check(rasppuce_seal_plain(LEND(keys), CHOSEN_LINK, sealed, LEND(message), LEND(plain_record)) == RASPPUCE_OK,
+          "sealing plainly");
+    put_number(plain_record.at + SEQUENCE_AT, number);
+    keep(k, &plain_record);
+}
+
+/* Puts a kept record where it is to be opened. */
+static void lend_record(const kept_record *k)
+{
+    fit(&record, sizeof k->record);
+    memcpy(record.at, k->record, sizeof k->record);
+    fit_marked(&opened, SHORT);
+    save();
+}
+
+/* A kept record arrives: it is answered, and the link then is, as the numbers accepted before say. */
+static uint32_t arrive(slice *link, const kept_record *k)
+{
+    uint32_t expected = answer_to(sequence_of(k));
+    lend_record(k);
+    uint32_t answer = rasppuce_open(LEND(*link), LEND(record), LEND(opened));
+    check(answer == expected, "a number is admitted if it is above the window, or in it and new");
+    if (answer == RASPPUCE_OK) {
+        check(memcmp(opened.at, k->message, SHORT) == 0, "the message sealed under this number");
+        accept(sequence_of(k));
+    } else {
+        check(all_as_saved(), "a refusal leaves every byte as it was");
+    }
+    check(window_right(link), "the window has the numbers accepted and no other");
+    return answer;
+}
+
+/* The other receiver is keyed anew, for chosen numbers. */
+static void key_chosen(void)
+{
+    key_receiver(&plain_receiver, CHOSEN_LINK);
+    accepted_count = 0;
+}
+
+/* The record of a chosen number arrives there. */
+static uint32_t arrive_chosen(uint32_t number)
+{
+    kept_record k;
+    keep_chosen(&k, number);
+    return arrive(&plain_receiver, &k);
+}
+
+/* A run of records sealed by shares that arrive in another order: each is opened once. */
+static void shuffled_run(void)
+{
+    static const unsigned order[] = {2, 0, 5, 1, 4, 3};
+    enum { RUN = sizeof order / sizeof order[0] };
+    kept_record run[RUN];
+    for (unsigned i = 0; i < RUN; i++)
+        keep_next(&run[i]);
+    for (unsigned i = 0; i < RUN; i++)
+        check(arrive(&receiver, &run[order[i]]) == RASPPUCE_OK, "a record out of turn is opened");
+    for (unsigned i = 0; i < RUN; i++)
+        check(arrive(&receiver, &run[i]) == RASPPUCE_REPEATED, "and is refused the second time");
+    printf("  %u records sealed by shares: opened in another order, each once\n", RUN);
+}
+
+/* Numbers in the order of their arrival at a new link, and the answer to each. */
+typedef struct {
+    uint32_t number, answer;
+    const char *how;
+} arrival;
+
+static const arrival arrivals[] = {
+    {0, RASPPUCE_BELOW_WINDOW, "0 on a new link"},
+    {2, RASPPUCE_OK, "the first to arrive"},
+    {0, RASPPUCE_BELOW_WINDOW, "0, two below"},
+    {1, RASPPUCE_OK, "one below"},
+    {64, RASPPUCE_OK, "the window has 1 to 64 now"},
+    {1, RASPPUCE_REPEATED, "63 below, again"},
+    {65, RASPPUCE_OK, "the next one up"},
+    {1, RASPPUCE_BELOW_WINDOW, "64 below, accepted before"},
+    {2, RASPPUCE_REPEATED, "63 below, again"},
+    {128, RASPPUCE_OK, "63 up: 65 is the last to stay"},
+    {65, RASPPUCE_REPEATED, "63 below, again"},
+    {64, RASPPUCE_BELOW_WINDOW, "64 below, accepted before"},
+    {63, RASPPUCE_BELOW_WINDOW, "65 below, never accepted"},
+    {66, RASPPUCE_OK, "62 below"},
+    {192, RASPPUCE_OK, "64 up: none stays"},
+    {129, RASPPUCE_OK, "63 below"},
+    {128, RASPPUCE_BELOW_WINDOW, "64 below, accepted before"},
+    {257, RASPPUCE_OK, "65 up: none stays"},
+    {193, RASPPUCE_BELOW_WINDOW, "64 below, never accepted"},
+    {194, RASPPUCE_OK, "63 below"},
+    {4294967295u, RASPPUCE_OK, "the last number"},
+    {4294967232u, RASPPUCE_OK, "63 below"},
+    {4294967231u, RASPPUCE_BELOW_WINDOW, "64 below, never accepted"},
+    {4294967295u, RASPPUCE_REPEATED, "the last number, again"},
+    {1, RASPPUCE_BELOW_WINDOW, "there is no way round to 1"},
+};
+
+static void chosen_numbers(void)
+{
+    key_chosen();
+    for (size_t i = 0; i < sizeof arrivals / sizeof arrivals[0]; i++) {
+        const arrival *a = &arrivals[i];
+        uint32_t answer = arrive_chosen(a->number);
+        check(answer == a->answer, a->how);
+        printf("  number %10lu: %2lu, window %016llx  %s\n", (unsigned long)a->number, (unsigned long)answer,
+               (unsigned long long)word_at(plain_receiver.at + WINDOW_AT), a->how);
+    }
+}
+
+/* Numbers from 80 below the highest to 15 above it. */
+static void random_numbers(void)
+{
+    enum { ARRIVALS = 400, BELOW = 80, ABOVE = 15 };
+    unsigned new_ones = 0, repeated = 0;
+    key_chosen();
+    for (int i = 0; i < ARRIVALS; i++) {
+        fill(&block);
+        uint32_t number = highest_accepted() + number_at(block.at) % (BELOW + ABOVE + 1);
+        uint32_t answer = arrive_chosen(number < BELOW ? 0 : number - BELOW);
+        new_ones += answer == RASPPUCE_OK;
+        repeated += answer == RASPPUCE_REPEATED;
+    }
+    unsigned below = ARRIVALS - new_ones - repeated;
+    check(new_ones > 50 && repeated > 50 && below > 50, "many answers of each kind");
+    printf("  %d random numbers: %u opened, %u repeated, %u below the window\n", ARRIVALS, new_ones, repeated, below);
+}
+
+static void out_of_turn(void)
+{
+    shuffled_run();
+    chosen_numbers();
+    random_numbers();
+}
+
+/* ---- reports and blocks */
 
 /* The three lanes of one round, for the next sealing. */
 static void report(size_t len, uint32_t call, uint32_t round)
@@ -357,15 +616,15 @@ static void bodies(void)
 
 /* ---- every refusal; `save` before the call, then `refused` */
 
-enum { LAST_REFUSAL = RASPPUCE_LANE };
+enum { LAST_REFUSAL = RASPPUCE_BELOW_WINDOW };
 
 static int met[LAST_REFUSAL + 1];
 
 static int is_refusal(uint32_t number)
 {
     return (RASPPUCE_KEYS <= number && number <= RASPPUCE_SEQUENCE)
-        || (RASPPUCE_NOT_KEYED <= number && number <= RASPPUCE_OLD_NUMBER)
-        || (RASPPUCE_BODY_LENGTH <= number && number <= RASPPUCE_LANE);
+        || (RASPPUCE_NOT_KEYED <= number && number <= RASPPUCE_REPEATED)
+        || (RASPPUCE_BODY_LENGTH <= number && number <= RASPPUCE_BELOW_WINDOW);
 }
 
 static void refused(uint32_t answer, uint32_t expected, const char *how)
@@ -473,6 +732,53 @@ static void write_refusals(void)
     refused(rasppuce_write_body(0, 0, 0, 0, LEND(odd)), RASPPUCE_OUTPUT, "11 bytes for one without");
 }
 
+/* Records that a link refuses which has accepted 37 and 100, and the first refusal of each. */
+typedef struct {
+    uint32_t number;
+    int damaged;
+    uint32_t answer;
+    const char *how;
+} no_entry;
+
+static const no_entry no_entries[] = {
+    {0, 0, RASPPUCE_BELOW_WINDOW, "number 0"},
+    {36, 0, RASPPUCE_BELOW_WINDOW, "a number 64 below the highest"},
+    {36, 1, RASPPUCE_BELOW_WINDOW, "64 below, and a wrong tag"},
+    {37, 0, RASPPUCE_REPEATED, "a number 63 below the highest, again"},
+    {37, 1, RASPPUCE_REPEATED, "63 below, again, and a wrong tag"},
+    {100, 0, RASPPUCE_REPEATED, "the highest number again"},
+    {100, 1, RASPPUCE_REPEATED, "the highest again, and a wrong tag"},
+    {38, 1, RASPPUCE_TAG, "a new number 62 below, and a wrong tag"},
+    {164, 1, RASPPUCE_TAG, "64 above, and a wrong tag"},
+};
+
+/* What the window refuses, behind the refusals of another link and of a short output. */
+static void window_refusals(void)
+{
+    kept_record k;
+    key_chosen();
+    check(arrive_chosen(37) == RASPPUCE_OK && arrive_chosen(100) == RASPPUCE_OK, "opening 37 and 100");
+    for (size_t i = 0; i < sizeof no_entries / sizeof no_entries[0]; i++) {
+        const no_entry *n = &no_entries[i];
+        keep_chosen(&k, n->number);
+        k.record[sizeof k.record - 1] ^= (uint8_t)n->damaged;
+        lend_record(&k);
+        refused(rasppuce_open(LEND(plain_receiver), LEND(record), LEND(opened)), n->answer, n->how);
+        check(rasppuce_open(LEND(plain_receiver), LEND(record), NULL, 0) == RASPPUCE_OUTPUT
+              && rasppuce_open(LEND(receiver), LEND(record), NULL, 0) == RASPPUCE_OTHER_LINK,
+              "another link and a short output come first");
+    }
+    check(arrive_chosen(38) == RASPPUCE_OK, "a wrong tag has not moved the window");
+
+    /* No call leaves such a window, but on any bytes 0 is refused as such and not as repeated. */
+    put_number(plain_receiver.at + LAST_AT, 5);
+    memset(plain_receiver.at + WINDOW_AT, 0xff, 8);
+    keep_chosen(&k, 0);
+    lend_record(&k);
+    refused(rasppuce_open(LEND(plain_receiver), LEND(record), LEND(opened)), RASPPUCE_BELOW_WINDOW,
+            "number 0, whose bit is set");
+}
+
 static void refusals(void)
 {
     const size_t len = 8, record_len = 8 + RASPPUCE_RECORD_ADDS;
@@ -502,9 +808,13 @@ static void refusals(void)
     refused(rasppuce_seal(LEND(fresh), LEND(message), LEND(tape), LEND(plain_record), LEND(tag_shares)),
             RASPPUCE_NOT_KEYED, "a fresh link, all zeros");
 
-    save_odd(40);
+    save_odd(WINDOW_AT);
     refused(rasppuce_key_receiver(LEND(odd), LINK, LEND(keys)), RASPPUCE_KEYS,
-            "keying a link slice of 40 bytes");
+            "keying a receiver of 41 bytes");
+    memcpy(odd.at, receiver.at, odd.len);
+    save();
+    refused(rasppuce_open(LEND(odd), LEND(record), LEND(opened)), RASPPUCE_NOT_KEYED,
+            "a receiver without its window");
     save_odd(257);
     refused(rasppuce_seal(LEND(sender), LEND(odd), LEND(tape), LEND(plain_record), LEND(tag_shares)),
             RASPPUCE_MESSAGE, "a message of 257 bytes");
@@ -540,10 +850,11 @@ static void refusals(void)
           && memcmp(opened.at, message.at, len) == 0, "after all that the record is still accepted");
     mark(&opened);
     save();
-    refused(rasppuce_open(LEND(receiver), LEND(record), LEND(opened)), RASPPUCE_OLD_NUMBER,
+    refused(rasppuce_open(LEND(receiver), LEND(record), LEND(opened)), RASPPUCE_REPEATED,
             "the same record again");
+    window_refusals();
 
-    put_number(sender.at + 5, 4294967295u);
+    put_number(sender.at + LAST_AT, 4294967295u);
     save();
     refused(rasppuce_seal(LEND(sender), LEND(message), LEND(tape), LEND(plain_record), LEND(tag_shares)),
             RASPPUCE_NUMBERS_USED, "a sender whose last number is 4294967295");
@@ -565,6 +876,8 @@ static void play(void)
     static const size_t lengths[] = {0, 1, 8, 15, 16, 17, 32, 255, 256};
     for (size_t i = 0; i < sizeof lengths / sizeof lengths[0]; i++)
         send(lengths[i]);
+    printf("opening out of turn\n");
+    out_of_turn();
     printf("reports\n");
     report(0, 1, 1);
     report(32, 6, 35);

@@ -55,13 +55,13 @@ extern "C" {
 
 /* ---- version of this header and of the archive that comes with it: see CHANGELOG.md */
 
-#define RASPPUCE_VERSION_MAJOR 2
+#define RASPPUCE_VERSION_MAJOR 3
 #define RASPPUCE_VERSION_MINOR 0
-#define RASPPUCE_VERSION_PATCH 1
-#define RASPPUCE_VERSION       "2.0.1"
+#define RASPPUCE_VERSION_PATCH 0
+#define RASPPUCE_VERSION       "3.0.0"
 
 /* ---- answers: success, refusals from the input (1 to 10), from the link's state (20 to 22), of
- * bodies (30 to 32), and of a report's round and lane (33 and 34) */
+ * bodies (30 to 32), of a report's round and lane (33 and 34), of a number out of the window (35) */
 
 #define RASPPUCE_OK            0u /* done */
 #define RASPPUCE_KEYS          1u /* key material isn't 96 bytes (sender) or 32; in keying, also
@@ -77,19 +77,21 @@ extern "C" {
 #define RASPPUCE_SEQUENCE     10u /* sequence number 0 in plain sealing */
 #define RASPPUCE_NOT_KEYED    20u /* the link isn't keyed, or its slice has a wrong length */
 #define RASPPUCE_NUMBERS_USED 21u /* the sender's last number is 4294967295, so none is left */
-#define RASPPUCE_OLD_NUMBER   22u /* the record's number isn't above the last accepted one */
+#define RASPPUCE_REPEATED     22u /* the record's number is in the window and was accepted before */
 #define RASPPUCE_BODY_LENGTH  30u /* body not 4 to 256 bytes in steps of 4 */
 #define RASPPUCE_BODY_WORD    31u /* read: a word of kind 0, a kind 1 to 4 for the second time, or an
                                      offset out of its range; written: a value out of its range */
 #define RASPPUCE_BODY_MISSING 32u /* the body has no word of kind 1, 2 or 3 */
 #define RASPPUCE_ROUND        33u /* the round to be shown isn't in 1 to 35 */
 #define RASPPUCE_LANE         34u /* the lane to be shown isn't in 0 to 2 */
+#define RASPPUCE_BELOW_WINDOW 35u /* the record's number is 0, or 64 or more below the highest
+                                     accepted one */
 
 /* ---- sizes in bytes; they can stand in #if */
 
 #define RASPPUCE_BLOCK_BYTES         16u  /* a block, and a key of the cipher */
 #define RASPPUCE_SENDER_BYTES        105u /* a sending link */
-#define RASPPUCE_RECEIVER_BYTES      41u  /* a receiving link */
+#define RASPPUCE_RECEIVER_BYTES      49u  /* a receiving link */
 #define RASPPUCE_SENDER_KEY_BYTES    96u  /* three shares of KE, then three of KM */
 #define RASPPUCE_RECEIVER_KEY_BYTES  32u  /* KE, then KM; for plain sealing too */
 #define RASPPUCE_MESSAGE_MOST        256u /* the longest message */
@@ -106,6 +108,9 @@ extern "C" {
 #define RASPPUCE_ROUND_MASKS_BYTES   32u  /* of a tape: two masks for each round of each call */
 #define RASPPUCE_TAPE_MOST           38144u /* the tape for the longest message */
 #define RASPPUCE_STACK_MOST          5120u  /* the stack of any call, and a quarter more */
+
+/* How many numbers a receiver's window covers: the highest accepted one and those right below it. */
+#define RASPPUCE_WINDOW 64u
 
 /* The last round that a report can show, and the last lane; rounds count from 1, lanes from 0. */
 #define RASPPUCE_LAST_ROUND 35u
@@ -145,12 +150,13 @@ static inline const char *rasppuce_meaning(uint32_t answer)
     case RASPPUCE_SEQUENCE:     return "sequence numbers begin with 1";
     case RASPPUCE_NOT_KEYED:    return "the link is not keyed";
     case RASPPUCE_NUMBERS_USED: return "the link has used its last number: key it anew";
-    case RASPPUCE_OLD_NUMBER:   return "this number or a later one was accepted before";
+    case RASPPUCE_REPEATED:     return "this number was accepted before";
     case RASPPUCE_BODY_LENGTH:  return "a body has 4 to 256 bytes, in steps of 4";
     case RASPPUCE_BODY_WORD:    return "a word of the body or a value of the mark is not allowed";
     case RASPPUCE_BODY_MISSING: return "the body lacks the seconds or their fraction";
     case RASPPUCE_ROUND:        return "a call has no such round";
     case RASPPUCE_LANE:         return "a round has no such lane";
+    case RASPPUCE_BELOW_WINDOW: return "the number is 0 or too far below the highest accepted";
     default:                    return "no answer of Rasppuce";
     }
 }
@@ -176,8 +182,10 @@ static inline void rasppuce_wipe(uint8_t *bytes, size_t len)
  *
  *     byte 0        1 if the link is keyed; anything else if not, so all zeros is a fresh link
  *     bytes 1 to 4  link number
- *     bytes 5 to 8  last number: the last one used (sender) or accepted (receiver)
+ *     bytes 5 to 8  the last number used (sender) or the highest accepted (receiver)
  *     bytes 9 on    keys: 96 bytes for a sender, 32 for a receiver
+ *     bytes 41 to 48, of a receiver only: the window, a word of 64 bits; bit k, of the value 2^k, is
+ *                   1 if the number k below the highest accepted one was accepted
  *
  * Only the calls below should change them. The bytes hold the keys: treat them as secret.
  */
@@ -197,10 +205,10 @@ uint32_t rasppuce_key_sender(uint8_t *link, size_t link_len, uint32_t number,
                              const uint8_t *keys, size_t keys_len);
 
 /*
- * Keys a receiving link with a number and 32 bytes: KE, then KM. Its last number is 0 afterwards.
- * Keying again with the same keys lets old records in again.
+ * Keys a receiving link with a number and 32 bytes: KE, then KM. Afterwards its highest number is 0
+ * and its window clear. Keying again with the same keys lets old records in again.
  *
- * Refuses: RASPPUCE_KEYS (link not 41 bytes or keys not 32).
+ * Refuses: RASPPUCE_KEYS (link not 49 bytes or keys not 32).
  */
 RASPPUCE_CHECK
 uint32_t rasppuce_key_receiver(uint8_t *link, size_t link_len, uint32_t number,
@@ -227,13 +235,16 @@ uint32_t rasppuce_seal(uint8_t *link, size_t link_len,
                        uint8_t *shares, size_t shares_len);
 
 /*
- * Opens a record on a receiving link.
+ * Opens a record on a receiving link. Records may arrive in any order: one is opened if its number is
+ * above the highest accepted one, or among the 64 up to that one and not accepted yet. This is the
+ * anti-replay window of RFC 4303. A record that arrives 64 numbers late or later is lost.
  *
  * message  gets the record_len - 24 bytes that were sealed.
- * link     its last number becomes the record's; nothing else in it changes.
+ * link     the window has the record's number; if it is the highest yet, it becomes the highest
+ *          number, and the window moves up with it. Nothing else in the link changes.
  *
  * Refuses: RASPPUCE_NOT_KEYED, RASPPUCE_RECORD, RASPPUCE_OTHER_LINK, RASPPUCE_OUTPUT (message
- * shorter than record_len - 24), RASPPUCE_OLD_NUMBER, RASPPUCE_TAG.
+ * shorter than record_len - 24), RASPPUCE_BELOW_WINDOW, RASPPUCE_REPEATED, RASPPUCE_TAG.
  */
 RASPPUCE_CHECK
 uint32_t rasppuce_open(uint8_t *link, size_t link_len,

@@ -5,7 +5,7 @@ use crate::aes;
 use crate::body::{self, Mark};
 use crate::cipher::{self, Block, CONSTANTS, PERMUTATION, ROUNDS, SBOX};
 use crate::hex;
-use crate::links;
+use crate::links::{self, Window};
 use crate::modes;
 use crate::shares;
 use crate::tally::Tally;
@@ -155,7 +155,7 @@ pub fn shares(tally: &mut Tally) {
         let (number, last) = (random.number() as u32, random.below(1000) as u32);
         let message = random.bytes(length);
         let tape = random.bytes(shares::tape_need(length));
-        let mut link = links::link(number, last, &keys);
+        let mut link = links::sending(number, last, &keys);
         let sealing = links::next_sealing(&links::sender(&link).expect("keyed"), &message, &tape);
         let plain = links::plain_calls(&joined, number, last + 1, &message);
         tally.same_number(format_args!("calls, {length}"), sealing.calls.len() as u32, plain.len() as u32);
@@ -197,6 +197,48 @@ pub fn values(tally: &mut Tally) {
     }
     written_bodies(tally);
     read_bodies(tally);
+}
+
+/// Windows and a number for each: the window after it, or the refusal.
+pub fn window(tally: &mut Tally) {
+    const ONES: u64 = u64::MAX;
+    const LAST: u32 = u32::MAX;
+    let cases: [(u32, u64, u32, Result<(u32, u64), u32>); 22] = [
+        (0, 0, 1, Ok((1, 1))),
+        (0, 0, 64, Ok((64, 1))),
+        (0, 0, LAST, Ok((LAST, 1))),
+        (1, 1, 2, Ok((2, 3))),
+        (5, 0x1d, 4, Ok((5, 0x1f))),
+        (5, 0x1d, 7, Ok((7, 0x75))),
+        (5, 0x1d, 3, Err(22)),
+        (64, 1, 1, Ok((64, 0x8000_0000_0000_0001))),
+        (64, 0x8000_0000_0000_0001, 1, Err(22)),
+        (65, 0, 1, Err(35)),
+        (65, ONES, 1, Err(35)),
+        (0, ONES, 0, Err(35)),
+        (63, ONES, 0, Err(35)),
+        (63, 0, 0, Err(35)),
+        // The bits of numbers below 1 move along.
+        (0, ONES, 5, Ok((5, 0xffff_ffff_ffff_ffe1))),
+        (10, ONES, 73, Ok((73, 0x8000_0000_0000_0001))),
+        (10, ONES, 74, Ok((74, 1))),
+        (10, ONES, 138, Ok((138, 1))),
+        (LAST - 64, ONES, LAST, Ok((LAST, 1))),
+        (LAST, 0, LAST - 63, Ok((LAST, 0x8000_0000_0000_0000))),
+        (LAST, 0, LAST - 64, Err(35)),
+        (LAST, 0, 1, Err(35)),
+    ];
+    for (highest, word, sequence, expected) in cases {
+        let what = format!("{highest}, {word:016x} after {sequence}");
+        let window = Window { highest, word };
+        let refusal = window.refusal(sequence);
+        let known = expected.err().unwrap_or(0);
+        tally.same_number(format_args!("own answer, {what}"), refusal.unwrap_or(0), known);
+        let after = if refusal.is_none() { window.with(sequence) } else { window };
+        let (highest, word) = expected.unwrap_or((highest, word));
+        tally.same_number(format_args!("own highest number, {what}"), after.highest, highest);
+        tally.same(format_args!("own window, {what}"), &after.word.to_be_bytes(), &word.to_be_bytes());
+    }
 }
 
 /// Marks, and the words that they have to be written as, or the number where they are refused.

@@ -5,7 +5,9 @@ use crate::body::{self, Mark, BAD_LENGTH, BAD_WORD, MISSING_KIND};
 use crate::cipher::{self, Block};
 use crate::held::LENGTHS;
 use crate::hex::Hex;
-use crate::links::{self, ADDED, BAD_RECORD, LANE, OLD_NUMBER, OTHER_LINK, SHARES, WRONG_TAG};
+use crate::links::{
+    self, Window, ADDED, BAD_RECORD, BELOW_WINDOW, LANE, OTHER_LINK, REPEATED, SHARES, WRONG_TAG,
+};
 use crate::modes;
 use crate::random::Random;
 use crate::shares;
@@ -24,6 +26,7 @@ pub fn print() {
     print!("{HEAD}");
     blocks(&mut Random::new(1));
     records(&mut Random::new(2));
+    opened(&mut Random::new(6));
     refused(&mut Random::new(3));
     bodies(&mut Random::new(5));
     refused_bodies();
@@ -126,28 +129,85 @@ fn records(random: &mut Random) {
     records.put("a time mark, the body of [body 1]", &random.bytes(32), 7, 2, &body);
 }
 
-// ---- records that are refused
+// ---- a receiver
 
-/// Prints [refused] groups of a receiver with these keys and this number.
-struct Refusals {
+/// The link number of the receivers here.
+const LINK: u32 = 0x0102_0304;
+/// The first number whose highest bit is 1.
+const HALF: u32 = 1 << 31;
+
+/// Prints groups of one kind, of a receiver with these keys; it has the number of the last one.
+struct Receiver {
+    kind: &'static str,
     keys: Vec<u8>,
-    link: u32,
     count: usize,
 }
 
-impl Refusals {
-    fn put(&mut self, remark: &str, last: u32, record: &[u8], answer: u32) {
-        let mut link = links::link(self.link, last, &self.keys);
-        let mut message = vec![0; record.len().saturating_sub(ADDED)];
-        assert_eq!(links::open(&mut link, record, &mut message), answer, "{remark}");
+impl Receiver {
+    /// Begins a group with the receiver and a record that it is offered, and returns its answer, its
+    /// window after that and the message.
+    fn offer(&mut self, remark: &str, window: Window, record: &[u8]) -> (u32, Window, Vec<u8>) {
         self.count += 1;
-        begin("refused", self.count, remark);
+        begin(self.kind, self.count, remark);
         field_blocks(&["ke", "km"], &self.keys);
-        field("link", self.link);
-        field("last", last);
+        field("link", LINK);
+        field_window("highest", "window", window);
         field("record", Hex(record));
+        let mut link = links::receiving(LINK, window, &self.keys);
+        let mut message = vec![0; record.len().saturating_sub(ADDED)];
+        let answer = links::open(&mut link, record, &mut message);
+        (answer, Window::of(&link), message)
+    }
+
+    fn put_opened(&mut self, remark: &str, window: Window, sequence: u32) {
+        let record = links::plain_record(&self.keys, LINK, sequence, TIME_MARK);
+        let (answer, after, message) = self.offer(remark, window, &record);
+        assert_eq!((answer, &message[..]), (0, TIME_MARK), "{remark}");
+        field("message", Hex(&message));
+        field_window("highest_after", "window_after", after);
+    }
+
+    fn put_refused(&mut self, remark: &str, window: Window, record: &[u8], answer: u32) {
+        assert_eq!(self.offer(remark, window, record).0, answer, "{remark}");
         field("answer", answer);
         field("words", words(answer));
+    }
+}
+
+fn field_window(highest: &str, word: &str, window: Window) {
+    field(highest, window.highest);
+    field(word, Hex(&window.word.to_be_bytes()));
+}
+
+/// Windows as they come about: bit 0 is 1 if a record was accepted, and no number below 1 was.
+fn opened(random: &mut Random) {
+    let mut receiver = Receiver { kind: "opened", keys: random.bytes(32), count: 0 };
+    for (remark, highest, word, sequence) in [
+        ("one number late", 100, 0x1d, 99),
+        ("two numbers late, the one between is still missing", 100, 1, 98),
+        ("63 numbers late, the most there can be", 100, 1, 37),
+        ("63 numbers late: number 1, all others were accepted", 64, 0x7fff_ffff_ffff_ffff, 1),
+        ("31 numbers late, the only one missing in the window", 200, 0xffff_ffff_7fff_ffff, 169),
+        ("one number late, across 2147483648", HALF, 1, HALF - 1),
+        ("the first record of a link", 0, 0, 1),
+        ("the first record that arrives has number 64", 0, 0, 64),
+        ("the first record that arrives has the last number there is", 0, 0, u32::MAX),
+        ("the next number, the highest bit is lost", 100, 0xc000_0000_0000_0001, 101),
+        ("the next number, all bits 1", 100, u64::MAX, 101),
+        ("two numbers on, one is missing", 100, 7, 102),
+        ("31 numbers on", 100, 0x0000_0001_8000_0003, 131),
+        ("32 numbers on", 100, 0x0000_0001_8000_0003, 132),
+        ("33 numbers on", 100, 0x0000_0001_8000_0003, 133),
+        ("63 numbers on, one bit stays", 100, u64::MAX, 163),
+        ("64 numbers on, no bit stays", 100, u64::MAX, 164),
+        ("65 numbers on", 100, u64::MAX, 165),
+        ("128 numbers on", 100, u64::MAX, 228),
+        ("2147483648 numbers on", 100, u64::MAX, HALF + 100),
+        ("one number on, to the last there is", u32::MAX - 1, 3, u32::MAX),
+        ("64 numbers on, to the last there is", u32::MAX - 64, u64::MAX, u32::MAX),
+        ("63 numbers late, behind the last there is", u32::MAX, 1, u32::MAX - 63),
+    ] {
+        receiver.put_opened(remark, Window { highest, word }, sequence);
     }
 }
 
@@ -156,7 +216,8 @@ fn words(answer: u32) -> &'static str {
         BAD_RECORD => "a record has 24 to 280 bytes",
         OTHER_LINK => "the record is for another link",
         WRONG_TAG => "wrong tag: damaged, forged or under another key",
-        OLD_NUMBER => "this number or a later one was accepted before",
+        REPEATED => "this number was accepted before",
+        BELOW_WINDOW => "the number is 0 or too far below the highest accepted",
         BAD_LENGTH => "a body has 4 to 256 bytes, in steps of 4",
         BAD_WORD => "a word of the body or a value of the mark is not allowed",
         MISSING_KIND => "the body lacks the seconds or their fraction",
@@ -177,51 +238,84 @@ fn retagged(record: &[u8], tag: &[u8]) -> Vec<u8> {
 }
 
 fn refused(random: &mut Random) {
-    const LINK: u32 = 0x0102_0304;
-    const LAST: u32 = 5;
+    // Of 1 to 5 all but 4 were accepted.
+    const WINDOW: Window = Window { highest: 5, word: 0x1d };
+    const NEXT: u32 = WINDOW.highest + 1;
     let keys = random.bytes(32);
-    let mut refusals = Refusals { keys: keys.clone(), link: LINK, count: 0 };
+    let mut receiver = Receiver { kind: "refused", keys: keys.clone(), count: 0 };
     let sealed = |link: u32, sequence: u32| links::plain_record(&keys, link, sequence, TIME_MARK);
-    let good = sealed(LINK, LAST + 1);
+    let good = sealed(LINK, NEXT);
     let bits = 8 * good.len();
+    let damaged = |sequence: u32| flipped(&sealed(LINK, sequence), bits - 1);
+
+    refused_numbers(&mut receiver);
+    receiver.put_refused("the highest number and a flipped bit of the tag", WINDOW, &damaged(5), REPEATED);
+    let far = Window { highest: 68, ..WINDOW };
+    receiver.put_refused("64 numbers late and a flipped bit of the tag", far, &damaged(4), BELOW_WINDOW);
 
     for (remark, record) in [
         ("the first bit of the tag is flipped", flipped(&good, bits - 128)),
         ("the last bit of the tag is flipped", flipped(&good, bits - 1)),
         ("the first bit of the ciphertext is flipped", flipped(&good, 64)),
         ("the last bit of the ciphertext is flipped", flipped(&good, bits - 129)),
-        ("the last bit of the sequence number is flipped, it is still above the last", flipped(&good, 63)),
+        ("the last bit of the sequence number is flipped, it is still above the highest", flipped(&good, 63)),
         ("the first byte of the ciphertext is missing", [&good[..8], &good[9..]].concat()),
         ("the last byte of the tag is missing", good[..good.len() - 1].to_vec()),
         ("the tag is zeros", retagged(&good, &[0; 16])),
+        ("a late number that was not accepted yet, and a flipped bit of the tag", damaged(4)),
     ] {
-        refusals.put(remark, LAST, &record, WRONG_TAG);
+        receiver.put_refused(remark, WINDOW, &record, WRONG_TAG);
     }
-    for (remark, record) in wrongly_tagged(&keys, LINK, LAST + 1) {
-        refusals.put(remark, LAST, &record, WRONG_TAG);
+    for (remark, record) in wrongly_tagged(&keys, LINK, NEXT) {
+        receiver.put_refused(remark, WINDOW, &record, WRONG_TAG);
     }
 
-    let other = sealed(LINK + 1, LAST + 1);
-    refusals.put("a good record for another link", LAST, &other, OTHER_LINK);
-    refusals.put("the last bit of the link number is flipped", LAST, &flipped(&good, 31), OTHER_LINK);
-    let worse = flipped(&sealed(LINK + 1, LAST), bits - 1);
-    refusals.put("another link, the last number and a flipped bit of the tag", LAST, &worse, OTHER_LINK);
+    let other = sealed(LINK + 1, NEXT);
+    let worse = flipped(&sealed(LINK + 1, WINDOW.highest), bits - 1);
+    for (remark, record) in [
+        ("a good record for another link", &other),
+        ("the last bit of the link number is flipped", &flipped(&good, 31)),
+        ("another link, the highest number and a flipped bit of the tag", &worse),
+    ] {
+        receiver.put_refused(remark, WINDOW, record, OTHER_LINK);
+    }
 
-    refusals.put("a good record with the last number: a replay", LAST, &sealed(LINK, LAST), OLD_NUMBER);
-    refusals.put("a good record with an older number", LAST, &sealed(LINK, 1), OLD_NUMBER);
-    refusals.put("a good record with number 0 on a new link", 0, &sealed(LINK, 0), OLD_NUMBER);
-    let half = 1 << 31;
-    refusals.put("an older number, by the highest bit", half, &sealed(LINK, half - 1), OLD_NUMBER);
-    refusals.put("no number is above the last", u32::MAX, &sealed(LINK, u32::MAX), OLD_NUMBER);
-    let damaged = flipped(&sealed(LINK, LAST), bits - 1);
-    refusals.put("the last number and a flipped bit of the tag", LAST, &damaged, OLD_NUMBER);
+    let empty = links::plain_record(&keys, LINK, NEXT, &[]);
+    let long = links::plain_record(&keys, LINK, NEXT, &random.bytes(257));
+    for (remark, record) in [
+        ("no bytes", &[][..]),
+        ("the first 23 bytes of a good record of 24", &empty[..23]),
+        ("the first 23 bytes of a record for another link", &other[..23]),
+        ("a message of 257 bytes, sealed in the same way", &long),
+    ] {
+        receiver.put_refused(remark, WINDOW, record, BAD_RECORD);
+    }
+}
 
-    let empty = links::plain_record(&keys, LINK, LAST + 1, &[]);
-    let long = links::plain_record(&keys, LINK, LAST + 1, &random.bytes(257));
-    refusals.put("no bytes", LAST, &[], BAD_RECORD);
-    refusals.put("the first 23 bytes of a good record of 24", LAST, &empty[..23], BAD_RECORD);
-    refusals.put("the first 23 bytes of a record for another link", LAST, &other[..23], BAD_RECORD);
-    refusals.put("a message of 257 bytes, sealed in the same way", LAST, &long, BAD_RECORD);
+/// Good records that are refused for their numbers.
+fn refused_numbers(receiver: &mut Receiver) {
+    for (remark, highest, word, sequence, answer) in [
+        ("a good record with the highest number: a replay", 5, 0x1d, 5, REPEATED),
+        ("a replay of number 1", 5, 0x1d, 1, REPEATED),
+        ("a replay one number late", 5, 0x1b, 4, REPEATED),
+        ("a replay 32 numbers late", 100, 0x0000_0001_0000_0001, 68, REPEATED),
+        ("a replay 63 numbers late", 100, 0x8000_0000_0000_0001, 37, REPEATED),
+        ("a replay 31 numbers late, all of the window were accepted", 100, u64::MAX, 69, REPEATED),
+        ("a replay one number late, across 2147483648", HALF, 3, HALF - 1, REPEATED),
+        ("a replay of the last number there is", u32::MAX, 1, u32::MAX, REPEATED),
+        ("number 0 on a new link", 0, 0, 0, BELOW_WINDOW),
+        ("number 0 after number 1", 1, 1, 0, BELOW_WINDOW),
+        ("number 0, less than 64 late, all others were accepted", 63, 0x7fff_ffff_ffff_ffff, 0, BELOW_WINDOW),
+        ("a good record 64 numbers late", 100, 1, 36, BELOW_WINDOW),
+        ("64 numbers late, all of the window were accepted", 100, u64::MAX, 36, BELOW_WINDOW),
+        ("65 numbers late", 100, 1, 35, BELOW_WINDOW),
+        ("128 numbers late", 200, 1, 72, BELOW_WINDOW),
+        ("64 numbers late, across 2147483648", HALF + 63, 1, HALF - 1, BELOW_WINDOW),
+        ("number 1 behind the last there is", u32::MAX, 1, 1, BELOW_WINDOW),
+    ] {
+        let record = links::plain_record(&receiver.keys, LINK, sequence, TIME_MARK);
+        receiver.put_refused(remark, Window { highest, word }, &record, answer);
+    }
 }
 
 /// Records as a sender makes them who has misread the definition.
@@ -390,7 +484,7 @@ impl Shared {
         field("message", Hex(message));
 
         let tape = tape(*seed, shares::tape_need(message.len()));
-        let sender = links::link(*link, *last, keys);
+        let sender = links::sending(*link, *last, keys);
         let mut record = vec![0; message.len() + ADDED];
         let mut tag = [0; SHARES];
         assert_eq!(links::seal(&mut sender.clone(), message, &tape, &mut record, &mut tag), 0);

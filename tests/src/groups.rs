@@ -3,13 +3,15 @@
 use crate::body::Mark;
 use crate::cipher::Block;
 use crate::hex;
+use crate::links::Window;
 use std::str::FromStr;
 
 /// The kinds of groups, each with its fields. A [shared] group has lanes besides.
-const KINDS: [(&str, &str); 6] = [
+const KINDS: [(&str, &str); 7] = [
     ("block", "key plaintext ciphertext"),
     ("record", "ke km link sequence message counter_block key_stream l k1 k2 tag record"),
-    ("refused", "ke km link last record answer words"),
+    ("opened", "ke km link highest window record message highest_after window_after"),
+    ("refused", "ke km link highest window record answer words"),
     ("body", "body seconds fraction offset values written"),
     ("refused_body", "body answer words"),
     (
@@ -99,7 +101,17 @@ impl Group {
     }
 
     pub fn block(&self, name: &str) -> Result<Block, String> {
-        self.bytes(name)?.try_into().map_err(|_| self.flaw(&format!("'{name}' is not 16 bytes")))
+        self.bytes_of(name)
+    }
+
+    /// As many bytes as the type has.
+    fn bytes_of<const N: usize>(&self, name: &str) -> Result<[u8; N], String> {
+        self.bytes(name)?.try_into().map_err(|_| self.flaw(&format!("'{name}' is not {N} bytes")))
+    }
+
+    /// A receiver's window, in a field for its highest number and one for its word.
+    pub fn window(&self, highest: &str, word: &str) -> Result<Window, String> {
+        Ok(Window { highest: self.number(highest)?, word: u64::from_be_bytes(self.bytes_of(word)?) })
     }
 
     pub fn number(&self, name: &str) -> Result<u32, String> {

@@ -4,10 +4,10 @@
 use crate::blocks::hold_both_ways;
 use crate::body::{BAD_LENGTH, BAD_WORD, MISSING_KIND, VALUES};
 use crate::groups::{self, Group};
-use crate::keying::{Key, Side, RECEIVING, SENDING};
+use crate::keying::{keyed, RECEIVING, SENDING};
 use crate::lanes::Report;
 use crate::lent::hold_as;
-use crate::links::{self, BAD_RECORD, LANE, OLD_NUMBER, OTHER_LINK, SHARES, WRONG_TAG};
+use crate::links::{self, Window, BAD_RECORD, BELOW_WINDOW, LANE, OTHER_LINK, REPEATED, SHARES, WRONG_TAG};
 use crate::modes;
 use crate::opening::Open;
 use crate::plain::SealPlain;
@@ -23,19 +23,21 @@ extern "C" {
     fn words_of_answer(answer: u32) -> *const c_char;
 }
 
-/// What the file has to have: records with messages of these lengths, bodies with these offsets,
-/// and these refusals.
+/// What the file has to have: records with messages of these lengths, records opened so far above the
+/// highest number or below it, bodies with these offsets, and these refusals.
 pub const LENGTHS: [usize; 10] = [0, 1, 15, 16, 17, 31, 32, 33, 255, 256];
+const ABOVE: [i64; 6] = [-63, -1, 1, 32, 63, 64];
 const OFFSETS: [&str; 5] = ["none", "-720", "-1", "0", "840"];
-const REFUSALS: [u32; 4] = [BAD_RECORD, OTHER_LINK, OLD_NUMBER, WRONG_TAG];
+const REFUSALS: [u32; 5] = [BAD_RECORD, OTHER_LINK, BELOW_WINDOW, REPEATED, WRONG_TAG];
 const BODY_REFUSALS: [u32; 3] = [BAD_LENGTH, BAD_WORD, MISSING_KIND];
 
 type Checks = fn(&mut Tally, &Group) -> Result<(), String>;
 
 /// How the groups of each kind are held.
-const KINDS: [(&str, Checks); 6] = [
+const KINDS: [(&str, Checks); 7] = [
     ("block", block),
     ("record", record),
+    ("opened", opened),
     ("refused", refused),
     ("body", body),
     ("refused_body", refused_body),
@@ -72,6 +74,10 @@ fn enough(tally: &mut Tally, groups: &[Group]) {
         let found = has("record", &|group| group.bytes("message").is_ok_and(|bytes| bytes.len() == length));
         tally.same_flag(format_args!("a record with a message of {length} bytes"), found, true);
     }
+    for above in ABOVE {
+        let found = has("opened", &|group| above_highest(group) == Ok(above));
+        tally.same_flag(format_args!("a record opened {above} above the highest number"), found, true);
+    }
     for answer in REFUSALS {
         let found = has("refused", &|group| group.number("answer") == Ok(answer));
         tally.same_flag(format_args!("a record refused with {answer}"), found, true);
@@ -93,13 +99,6 @@ fn enough(tally: &mut Tally, groups: &[Group]) {
 /// An output before a call.
 fn room(length: usize) -> Vec<u8> {
     vec![0xee; length]
-}
-
-/// A link that was all zeros, as the C call keys it.
-fn keyed(tally: &mut Tally, side: &'static Side, number: u32, keys: &[u8]) -> Vec<u8> {
-    let link = links::link(number, 0, keys);
-    let before = Key { side, link: vec![0; link.len()], number, keys: keys.to_vec() };
-    hold_as(tally, &before, 0, &Key { link, ..before.clone() }, 0).left.link
 }
 
 // ---- the cipher alone
@@ -128,11 +127,11 @@ fn hold_opened(tally: &mut Tally, sealed: &SealPlain, shift: usize) {
     let SealPlain { keys, number, sequence, message, record } = sealed;
     let link = keyed(tally, &RECEIVING, *number, keys);
     let before = Open { link, record: record.clone(), message: room(message.len()) };
-    let link = links::link(*number, *sequence, keys);
+    let link = links::receiving(*number, Window { highest: *sequence, word: 1 }, keys);
     let after = Open { link, message: message.clone(), ..before.clone() };
     let opened = hold_as(tally, &before, 0, &after, shift).left;
     let again = Open { message: room(message.len()), ..opened };
-    hold_as(tally, &again, OLD_NUMBER, &again, shift);
+    hold_as(tally, &again, REPEATED, &again, shift);
 }
 
 /// The steps between the keys and the record, by the block calls and the record itself.
@@ -160,14 +159,37 @@ fn hold_tag(tally: &mut Tally, what: &str, tag: &[u8], record: &[u8]) {
     tally.same(format_args!("tag, {what}"), tag, &record[at..]);
 }
 
-fn refused(tally: &mut Tally, group: &Group) -> Result<(), String> {
+// ---- a receiver
+
+/// The receiver of a group and the record that it is offered.
+fn offered(tally: &mut Tally, group: &Group) -> Result<Open, String> {
     let keys = [group.block("ke")?, group.block("km")?].concat();
     let mut link = keyed(tally, &RECEIVING, group.number("link")?, &keys);
-    links::set_last(&mut link, group.number("last")?);
+    links::set_window(&mut link, group.window("highest", "window")?);
     let record = group.bytes("record")?;
     let message = room(record.len().saturating_sub(links::ADDED));
+    Ok(Open { link, record, message })
+}
+
+/// How far the number of a group's record is above the receiver's highest.
+fn above_highest(group: &Group) -> Result<i64, String> {
+    let record = group.bytes("record")?;
+    let sequence = record.get(4..8).and_then(|bytes| bytes.try_into().ok());
+    let sequence = sequence.map(u32::from_be_bytes).ok_or("no sequence number")?;
+    Ok(i64::from(sequence) - i64::from(group.number("highest")?))
+}
+
+fn opened(tally: &mut Tally, group: &Group) -> Result<(), String> {
+    let before = offered(tally, group)?;
+    let mut after = Open { message: group.bytes("message")?, ..before.clone() };
+    links::set_window(&mut after.link, group.window("highest_after", "window_after")?);
+    hold_as(tally, &before, 0, &after, group.number);
+    Ok(())
+}
+
+fn refused(tally: &mut Tally, group: &Group) -> Result<(), String> {
+    let call = offered(tally, group)?;
     let answer = group.number("answer")?;
-    let call = Open { link, record, message };
     hold_as(tally, &call, answer, &call, group.number);
     hold_words(tally, answer, group.text("words")?);
     let is_refusal = REFUSALS.contains(&answer);
@@ -235,7 +257,7 @@ fn shared(tally: &mut Tally, group: &Group) -> Result<(), String> {
     links::set_last(&mut link, last);
     let before = Seal { link, message, tape, record: room(record.len()), shares: room(SHARES) };
     let written = [&tag_shares[..], &group.number("tape_count")?.to_be_bytes()].concat();
-    let link = links::link(number, sequence, &keys);
+    let link = links::sending(number, sequence, &keys);
     let after = Seal { link, record, shares: written, ..before.clone() };
     hold_as(tally, &before, 0, &after, group.number);
     hold_lanes(tally, group, &before)?;

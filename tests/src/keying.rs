@@ -21,19 +21,30 @@ extern "C" {
     ) -> u32;
 }
 
-/// One of the two: its function, and the lengths of link and keys that it takes.
+/// One of the two: its function, what it has to do, and the lengths of link and keys that it takes.
 pub struct Side {
     name: &'static str,
     call: unsafe extern "C" fn(*mut u8, usize, u32, *const u8, usize) -> u32,
+    own: fn(&mut [u8], u32, &[u8]) -> u32,
     link: usize,
     keys: usize,
 }
 
-pub static SENDING: Side =
-    Side { name: "rasppuce_key_sender", call: rasppuce_key_sender, link: SENDER, keys: SENDER_KEYS };
+pub static SENDING: Side = Side {
+    name: "rasppuce_key_sender",
+    call: rasppuce_key_sender,
+    own: links::key_sender,
+    link: SENDER,
+    keys: SENDER_KEYS,
+};
 
-pub static RECEIVING: Side =
-    Side { name: "rasppuce_key_receiver", call: rasppuce_key_receiver, link: RECEIVER, keys: RECEIVER_KEYS };
+pub static RECEIVING: Side = Side {
+    name: "rasppuce_key_receiver",
+    call: rasppuce_key_receiver,
+    own: links::key_receiver,
+    link: RECEIVER,
+    keys: RECEIVER_KEYS,
+};
 
 #[derive(Clone)]
 pub struct Key {
@@ -62,8 +73,14 @@ impl Call for Key {
     }
 
     fn own(&mut self) -> u32 {
-        links::key(&mut self.link, self.side.link, self.number, &self.keys)
+        (self.side.own)(&mut self.link, self.number, &self.keys)
     }
+}
+
+/// A link that was all zeros, as the C call keys it.
+pub fn keyed(tally: &mut Tally, side: &'static Side, number: u32, keys: &[u8]) -> Vec<u8> {
+    let call = Key { side, link: vec![0; side.link], number, keys: keys.to_vec() };
+    hold_answer(tally, &call, 0, 0).left.link
 }
 
 /// Holds both calls on links and keys of these lengths, whatever stood in the link before.
@@ -86,14 +103,15 @@ pub fn lengths(tally: &mut Tally) {
             number = number.wrapping_add(0x0101_0107);
         }
     }
-    for link in [41, 105, 256 + 41, 256 + 105, 65_536 + 41, 65_536 + 105] {
+    for link in [49, 105, 256 + 49, 256 + 105, 65_536 + 49, 65_536 + 105] {
         for keys in [32, 96, 256 + 32, 256 + 96, 65_536 + 32, 65_536 + 96] {
             hold_both(tally, link, keys, 7);
         }
     }
 }
 
-/// Fresh links, links keyed before, and link numbers at the ends of their range.
+/// Fresh links, links keyed before, and link numbers at the ends of their range. A keyed link has
+/// used no number, and a receiver's window is clear.
 pub fn links(tally: &mut Tally) {
     let mut random = tally.random();
     for side in [&SENDING, &RECEIVING] {
@@ -105,9 +123,10 @@ pub fn links(tally: &mut Tally) {
                 hold_answer(tally, &call, 0, random.number() as usize);
             }
         }
-        let call = Key { side, link: vec![0; side.link], number: 5, keys: vec![9; side.keys] };
-        let keyed = hold_answer(tally, &call, 0, 0).left.link;
-        let expected = links::link(5, 0, &call.keys);
+        let keys = vec![9; side.keys];
+        let mut expected = [&[1, 0, 0, 0, 5, 0, 0, 0, 0], &keys[..]].concat();
+        expected.resize(side.link, 0);
+        let keyed = keyed(tally, side, 5, &keys);
         tally.same(format_args!("a fresh link, keyed by {}", side.name), &keyed, &expected);
     }
 }

@@ -83,7 +83,7 @@ impl Call for Report {
 fn good(tally: &Tally, length: usize, number: usize) -> Report {
     let mut random = tally.random_for(1000 * number + length);
     Report {
-        link: links::link(random.number() as u32, random.below(1000) as u32, &random.bytes(SENDER_KEYS)),
+        link: links::sending(random.number() as u32, random.below(1000) as u32, &random.bytes(SENDER_KEYS)),
         message: random.bytes(length),
         tape: random.bytes(shares::tape_need(length)),
         call: 1,

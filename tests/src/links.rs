@@ -1,15 +1,16 @@
 //! Links, records and refusals: each function here says what the C call of its name has to do.
 //!
-//! A link is lent as bytes: 1 if it is keyed and anything else if not, link number, last number,
-//! keys. Numbers are big-endian. A function returns 0 or the refusal's number, and changes the
-//! slices only where it returns 0.
+//! A link is lent as bytes: 1 if it is keyed and anything else if not, link number, a sender's last
+//! number or a receiver's highest, keys, and behind those of a receiver its window. Numbers are
+//! big-endian. A function returns 0 or the refusal's number, and changes the slices only where it
+//! returns 0.
 
 use crate::cipher::{self, Block, ROUNDS};
 use crate::modes;
 use crate::shares::{self, Sealing, Shares};
 
 pub const SENDER: usize = 105;
-pub const RECEIVER: usize = 41;
+pub const RECEIVER: usize = 49;
 pub const SENDER_KEYS: usize = 96;
 pub const RECEIVER_KEYS: usize = 32;
 pub const LONGEST: usize = 256;
@@ -20,6 +21,8 @@ pub const ADDED: usize = 24;
 /// Three tag shares and the tape count.
 pub const SHARES: usize = 52;
 pub const LANE: usize = 48;
+/// The numbers that a receiver's window covers.
+pub const COVERED: u32 = 64;
 
 pub const BAD_KEYS: u32 = 1;
 pub const LONG_MESSAGE: u32 = 2;
@@ -33,9 +36,10 @@ pub const WRONG_TAG: u32 = 9;
 pub const NO_SEQUENCE: u32 = 10;
 pub const NOT_KEYED: u32 = 20;
 pub const NUMBERS_USED: u32 = 21;
-pub const OLD_NUMBER: u32 = 22;
+pub const REPEATED: u32 = 22;
 pub const BAD_ROUND: u32 = 33;
 pub const BAD_LANE: u32 = 34;
+pub const BELOW_WINDOW: u32 = 35;
 
 fn number_at(bytes: &[u8], at: usize) -> u32 {
     u32::from_be_bytes(bytes[at..at + 4].try_into().unwrap())
@@ -45,14 +49,25 @@ fn put(bytes: &mut [u8], at: usize, what: &[u8]) {
     bytes[at..at + what.len()].copy_from_slice(what);
 }
 
-/// Puts a last number into a link's bytes.
+/// Puts a sender's last number into its bytes, or a receiver's highest.
 pub fn set_last(link: &mut [u8], last: u32) {
     put(link, 5, &last.to_be_bytes());
 }
 
-/// The link's bytes: keyed, with this number, last number and keys.
-pub fn link(number: u32, last: u32, keys: &[u8]) -> Vec<u8> {
+/// Puts a receiver's window into its bytes.
+pub fn set_window(link: &mut [u8], window: Window) {
+    set_last(link, window.highest);
+    put(link, 41, &window.word.to_be_bytes());
+}
+
+/// The bytes of a keyed sender.
+pub fn sending(number: u32, last: u32, keys: &[u8]) -> Vec<u8> {
     [&[1], &number.to_be_bytes()[..], &last.to_be_bytes()[..], keys].concat()
+}
+
+/// The bytes of a keyed receiver.
+pub fn receiving(number: u32, window: Window, keys: &[u8]) -> Vec<u8> {
+    [&sending(number, window.highest, keys)[..], &window.word.to_be_bytes()].concat()
 }
 
 /// What a keyed sender holds.
@@ -81,14 +96,63 @@ pub fn joined_keys(sender_keys: &[u8]) -> Vec<u8> {
 
 // ---- keying
 
-/// Keys a link of this size: a sender or a receiver.
-pub fn key(link: &mut [u8], size: usize, number: u32, keys: &[u8]) -> u32 {
-    if link.len() != size || keys.len() != size - 9 {
+pub fn key_sender(link: &mut [u8], number: u32, keys: &[u8]) -> u32 {
+    if link.len() != SENDER || keys.len() != SENDER_KEYS {
         return BAD_KEYS;
     }
-    let keyed = self::link(number, 0, keys);
-    put(link, 0, &keyed);
+    put(link, 0, &sending(number, 0, keys));
     0
+}
+
+pub fn key_receiver(link: &mut [u8], number: u32, keys: &[u8]) -> u32 {
+    if link.len() != RECEIVER || keys.len() != RECEIVER_KEYS {
+        return BAD_KEYS;
+    }
+    put(link, 0, &receiving(number, Window::default(), keys));
+    0
+}
+
+// ---- the window
+
+/// RFC 4303, section 3.4.3: the highest number that was accepted, and a word whose bit k says if the
+/// number k below it was.
+#[derive(Clone, Copy, Debug, Default, PartialEq)]
+pub struct Window {
+    pub highest: u32,
+    pub word: u64,
+}
+
+impl Window {
+    /// That of a receiver's bytes.
+    pub fn of(link: &[u8]) -> Window {
+        Window { highest: number_at(link, 5), word: u64::from_be_bytes(link[41..49].try_into().unwrap()) }
+    }
+
+    /// What the bit of a number says. In a word of any bits, numbers below 1 have theirs too.
+    fn has(&self, number: i64) -> bool {
+        let below = i64::from(self.highest) - number;
+        (0..i64::from(COVERED)).contains(&below) && (self.word >> below) & 1 == 1
+    }
+
+    /// Why a number is not admitted.
+    pub fn refusal(&self, number: u32) -> Option<u32> {
+        if number == 0 || u64::from(number) + u64::from(COVERED) <= u64::from(self.highest) {
+            Some(BELOW_WINDOW)
+        } else {
+            self.has(number.into()).then_some(REPEATED)
+        }
+    }
+
+    /// The window after a number is accepted: every number in it has the bit that it had, and this
+    /// one has 1.
+    pub fn with(&self, number: u32) -> Window {
+        let highest = self.highest.max(number);
+        let bit = |k: u32| {
+            let covered = i64::from(highest) - i64::from(k);
+            u64::from(covered == i64::from(number) || self.has(covered)) << k
+        };
+        Window { highest, word: (0..COVERED).map(bit).sum() }
+    }
 }
 
 // ---- plain sealing and opening
@@ -177,15 +241,16 @@ pub fn open(link: &mut [u8], record: &[u8], message: &mut [u8]) -> u32 {
         return SHORT_OUTPUT;
     }
     let sequence = number_at(record, 4);
-    if sequence <= number_at(link, 5) {
-        return OLD_NUMBER;
+    let window = Window::of(link);
+    if let Some(refusal) = window.refusal(sequence) {
+        return refusal;
     }
     let (ke, km) = two_keys(&link[9..]);
     if tag_of(|block| cipher::encrypt(&km, block), number, sequence, ciphertext) != tag {
         return WRONG_TAG;
     }
     put(message, 0, &crypted(|block| cipher::encrypt(&ke, block), number, sequence, ciphertext));
-    set_last(link, sequence);
+    set_window(link, window.with(sequence));
     0
 }
 

@@ -41,6 +41,7 @@ mod sealing;
 mod shares;
 mod tally;
 mod vectors;
+mod window;
 mod writing;
 
 use hex::Hex;
@@ -59,6 +60,7 @@ const GROUPS: &[(&str, fn(&mut Tally))] = &[
     ("own modes, examples of NIST", definition::modes),
     ("own shares, S-box and calls", definition::shares),
     ("own values", definition::values),
+    ("own window", definition::window),
     ("block calls, published vectors", blocks::published),
     ("block calls, random keys and blocks", blocks::random),
     ("block calls, single bits", blocks::single_bits),
@@ -78,9 +80,15 @@ const GROUPS: &[(&str, fn(&mut Tally))] = &[
     ("opening, damaged records", opening::damaged),
     ("opening, records cut and extended", opening::cut_and_extended),
     ("opening, other links", opening::other_links),
-    ("opening, numbers", opening::numbers),
     ("opening, links not keyed", opening::not_keyed),
     ("opening, refusals alone and together", opening::refusals),
+    ("window, numbers", window::numbers),
+    ("window, every bit", window::every_bit),
+    ("window, number 0", window::number_zero),
+    ("window, shifts", window::shifts),
+    ("window, refusals alone and together", window::refusals),
+    ("window, a kept link against a set of numbers", window::kept_link),
+    ("window, records over two cables", window::two_cables),
     ("sealing, messages", sealing::messages),
     ("sealing, tapes", sealing::tapes),
     ("sealing, outputs", sealing::outputs),

@@ -2,8 +2,8 @@
 
 use crate::lent::{hold_answer, hold_order, Call, Lent};
 use crate::links::{
-    self, ADDED, BAD_RECORD, EDGES, LONGEST, NOT_KEYED, OLD_NUMBER, OTHER_LINK, RECEIVER, RECEIVER_KEYS,
-    SHORT_OUTPUT, WRONG_TAG,
+    self, Window, ADDED, BAD_RECORD, BELOW_WINDOW, EDGES, LONGEST, NOT_KEYED, OTHER_LINK, RECEIVER,
+    RECEIVER_KEYS, REPEATED, SHORT_OUTPUT, WRONG_TAG,
 };
 use crate::tally::Tally;
 
@@ -51,10 +51,12 @@ impl Call for Open {
     }
 }
 
-/// The number of the link of `good`, its last accepted number, and the number of its record.
+/// The number of the link of `good`, its window, and the number of its record.
 const NUMBER: u32 = 0x0102_0304;
-const LAST: u32 = 0x28;
+const WINDOW: Window = Window { highest: 0x28, word: 0xf1 };
 const SEQUENCE: u32 = 0x128;
+/// The window after that record: the highest number rises by more than the window covers.
+const AFTER: Window = Window { highest: SEQUENCE, word: 1 };
 
 /// An acceptable call with room for `more` bytes past the message.
 fn good(tally: &Tally, length: usize, more: usize) -> Open {
@@ -62,7 +64,7 @@ fn good(tally: &Tally, length: usize, more: usize) -> Open {
     let keys = random.bytes(RECEIVER_KEYS);
     let message = random.bytes(length);
     Open {
-        link: links::link(NUMBER, LAST, &keys),
+        link: links::receiving(NUMBER, WINDOW, &keys),
         record: links::plain_record(&keys, NUMBER, SEQUENCE, &message),
         message: random.bytes(length + more),
     }
@@ -80,11 +82,11 @@ pub fn messages(tally: &mut Tally) {
             tally.same(
                 format_args!("link, {length}"),
                 &done.left.link,
-                &links::link(NUMBER, SEQUENCE, &keys),
+                &links::receiving(NUMBER, AFTER, &keys),
             );
             // The same record once more is a replay.
             let again = Open { message: vec![0; length], ..done.left };
-            hold_answer(tally, &again, OLD_NUMBER, length);
+            hold_answer(tally, &again, REPEATED, length);
         }
     }
 }
@@ -110,8 +112,8 @@ pub fn damaged(tally: &mut Tally) {
                 call.record[i] ^= 1 << bit;
                 let answer = match i {
                     0..=3 => OTHER_LINK,
-                    // Sequence number 128 hexadecimal becomes 28, the last accepted one.
-                    6 if bit == 0 => OLD_NUMBER,
+                    // Sequence number 128 hexadecimal becomes 28, the highest accepted one.
+                    6 if bit == 0 => REPEATED,
                     _ => WRONG_TAG,
                 };
                 hold_answer(tally, &call, answer, 8 * i + bit);
@@ -180,7 +182,7 @@ pub fn other_links(tally: &mut Tally) {
     for own in [0, 1, 0x0102_0304, u32::MAX] {
         for theirs in [0, 1, 2, 0x0102_0305, 0x0202_0304, 0x0102_0304, 0x0403_0201, u32::MAX - 1, u32::MAX] {
             let call = Open {
-                link: links::link(own, 0, &keys),
+                link: links::receiving(own, Window::default(), &keys),
                 record: links::plain_record(&keys, theirs, 1, b"a time mark"),
                 message: vec![0; 11],
             };
@@ -200,28 +202,10 @@ pub fn other_links(tally: &mut Tally) {
     }
 }
 
-/// Old and new numbers: what is not above the last accepted one is refused.
-pub fn numbers(tally: &mut Tally) {
-    let keys = tally.random().bytes(RECEIVER_KEYS);
-    for last in [0, 1, 2, 100, 255, 256, 65_535, 0x7fff_ffff, 0x8000_0000, u32::MAX - 1, u32::MAX] {
-        let around = [last.wrapping_sub(1), last, last.wrapping_add(1), last.wrapping_add(2)];
-        for sequence in around.into_iter().chain([0, 1, 256, 0x0100_0000, 0x8000_0000, u32::MAX]) {
-            let call = Open {
-                link: links::link(77, last, &keys),
-                record: links::plain_record(&keys, 77, sequence, b"a time mark"),
-                message: vec![0; 20],
-            };
-            let done = hold_answer(tally, &call, if sequence > last { 0 } else { OLD_NUMBER }, last as usize);
-            let expected = links::link(77, last.max(sequence), &keys);
-            tally.same(format_args!("link, {last} then {sequence}"), &done.left.link, &expected);
-        }
-    }
-}
-
 /// Links of every length to 130 and of every first byte.
 pub fn not_keyed(tally: &mut Tally) {
     let good = good(tally, 20, 0);
-    for size in (0..=130).chain([256 + 41, 65_536 + 41]) {
+    for size in (0..=130).chain([256 + 49, 65_536 + 49]) {
         let mut call = good.clone();
         call.link.resize(size, 1);
         hold_answer(tally, &call, if size == RECEIVER { 0 } else { NOT_KEYED }, size);
@@ -249,7 +233,7 @@ pub fn refusals(tally: &mut Tally) {
                         |call| call.link[0] = 2,
                         |call| call.link[0] = 0xff,
                         |call| call.link.clear(),
-                        |call| call.link.truncate(40),
+                        |call| call.link.truncate(48),
                         |call| call.link.push(0),
                         |call| call.link.resize(105, 0),
                     ],
@@ -267,10 +251,17 @@ pub fn refusals(tally: &mut Tally) {
                 (OTHER_LINK, &[|call| call.record[3] ^= 1, |call| call.link[1] ^= 0x80]),
                 (SHORT_OUTPUT, &[|call| call.message.clear(), |call| shorten_below_record(call)]),
                 (
-                    OLD_NUMBER,
+                    BELOW_WINDOW,
                     &[
-                        |call| links::set_last(&mut call.link, SEQUENCE),
+                        |call| links::set_last(&mut call.link, SEQUENCE + 64),
                         |call| links::set_last(&mut call.link, u32::MAX),
+                    ],
+                ),
+                (
+                    REPEATED,
+                    &[
+                        |call| links::set_window(&mut call.link, AFTER),
+                        |call| links::set_window(&mut call.link, Window { highest: SEQUENCE + 9, word: !0 }),
                     ],
                 ),
                 (

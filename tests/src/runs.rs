@@ -4,7 +4,7 @@ use crate::body::{Mark, VALUES};
 use crate::keying::{Key, RECEIVING, SENDING};
 use crate::lanes::Report;
 use crate::lent::{hold, Call};
-use crate::links::{self, ADDED, LONGEST, RECEIVER, SENDER, SENDER_KEYS, SHARES};
+use crate::links::{self, Window, ADDED, LONGEST, RECEIVER, SENDER, SENDER_KEYS, SHARES};
 use crate::opening::Open;
 use crate::plain::SealPlain;
 use crate::random::Random;
@@ -161,16 +161,17 @@ fn seal(tally: &mut Tally, random: &mut Random, rack: &mut Rack) {
     rack.keep(record);
 }
 
-/// Seals plainly, with a number of its own near the sender's last.
+/// Seals plainly, with a number of its own near the sender's last or some tens away from it.
 fn seal_plain(tally: &mut Tally, random: &mut Random, rack: &mut Rack) {
     let message = message(tally, random);
     let length = message.len();
     let last = u32::from_be_bytes(rack.sender[5..9].try_into().unwrap());
     let record = room(random, length + ADDED);
+    let most = random.pick(&[2, 70]);
     let mut call = SealPlain {
         keys: links::joined_keys(&rack.keys),
         number: rack.number,
-        sequence: last.wrapping_add(random.below(5) as u32).wrapping_sub(2),
+        sequence: last.wrapping_add(random.below(2 * most + 1) as u32).wrapping_sub(most as u32),
         message,
         record: random.bytes(record),
     };
@@ -224,7 +225,7 @@ fn upset(random: &mut Random, rack: &mut Rack) {
     let last = u32::MAX - random.below(4) as u32;
     match random.below(5) {
         0 | 1 => links::set_last(&mut rack.sender, last),
-        2 => links::set_last(&mut rack.receiver, last),
+        2 => links::set_window(&mut rack.receiver, Window { highest: last, word: random.number() }),
         3 => rack.sender[0] = random.number() as u8,
         _ => rack.receiver[0] = random.number() as u8,
     }

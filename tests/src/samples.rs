@@ -56,13 +56,14 @@ fn print_opened(link: &mut [u8], record: &[u8]) {
     println!("open {} {}", message.len(), digits(&message));
 }
 
-fn print_refusal(what: &str, link: &mut [u8], record: &[u8], room: usize) {
+fn print_answer(what: &str, link: &mut [u8], record: &[u8], room: usize) {
     println!("open {what} {}", links::open(link, record, &mut vec![0; room]));
 }
 
 pub fn records() {
     let keys = rising(links::RECEIVER_KEYS, 0, 1);
-    let mut link = links::link(NUMBER, 0, &keys);
+    let mut link = vec![0; links::RECEIVER];
+    assert_eq!(links::key_receiver(&mut link, NUMBER, &keys), 0);
     for (i, length) in [0, 1, 15, 16, 17, 31, 32, 255, 256].into_iter().enumerate() {
         let (number, record) = seal_plain(&keys, i as u32 + 1, &message(length), length + links::ADDED);
         assert_eq!(number, 0);
@@ -82,16 +83,23 @@ pub fn records() {
         record[at] = record[at].wrapping_add(1);
         record
     };
-    print_refusal("not keyed", &mut [0; links::RECEIVER], &record, 17);
-    print_refusal("23 bytes", &mut link, &record[..23], 17);
-    print_refusal("281 bytes", &mut link, &[0; 281], 257);
-    print_refusal("other link", &mut link, &damaged(3), 17);
-    print_refusal("output one short", &mut link, &record, 16);
-    print_refusal("damaged ciphertext", &mut link, &damaged(8), 17);
-    print_refusal("damaged tag", &mut link, &damaged(40), 17);
-    print_refusal("damaged sequence", &mut link, &damaged(4), 17);
+    print_answer("not keyed", &mut [0; links::RECEIVER], &record, 17);
+    print_answer("23 bytes", &mut link, &record[..23], 17);
+    print_answer("281 bytes", &mut link, &[0; 281], 257);
+    print_answer("other link", &mut link, &damaged(3), 17);
+    print_answer("output one short", &mut link, &record, 16);
+    print_answer("damaged ciphertext", &mut link, &damaged(8), 17);
+    print_answer("damaged tag", &mut link, &damaged(40), 17);
+    print_answer("damaged sequence", &mut link, &damaged(4), 17);
     print_opened(&mut link, &record);
-    print_refusal("again", &mut link, &record, 17);
+    print_answer("again", &mut link, &record, 17);
+
+    // 64 numbers and more out of turn, and fewer.
+    for sequence in [74, 11, 11, 10, 73, 138, 74, 75] {
+        let (number, record) = seal_plain(&keys, sequence, &message(17), 41);
+        assert_eq!(number, 0);
+        print_answer(&sequence.to_string(), &mut link, &record, 17);
+    }
 }
 
 // ---- shared sealing and the report
@@ -121,7 +129,7 @@ fn print_lanes(link: &[u8], message: &[u8], call: u32) {
 }
 
 pub fn lanes() {
-    let mut link = links::link(NUMBER, 0, &rising(links::SENDER_KEYS, 1, 11));
+    let mut link = links::sending(NUMBER, 0, &rising(links::SENDER_KEYS, 1, 11));
     for length in [0, 1, 15, 16, 17, 48, 256] {
         print_sealed(&mut link, &message(length), &tape(shares::tape_need(length)));
     }
@@ -170,7 +178,7 @@ pub fn rack() {
     let mut link = vec![0; links::SENDER];
     turn(&mut link, 257, 38_144, 280);
     let keys = rising(links::SENDER_KEYS, 11, 37);
-    assert_eq!(links::key(&mut link, links::SENDER, NUMBER, &keys), 0);
+    assert_eq!(links::key_sender(&mut link, NUMBER, &keys), 0);
     for (message, tape, room) in [
         (0, 2304, 24),
         (0, 2303, 24),

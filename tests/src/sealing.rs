@@ -2,8 +2,8 @@
 
 use crate::lent::{hold_answer, hold_order, Call, Lent};
 use crate::links::{
-    self, ADDED, EDGES, LONGEST, LONG_MESSAGE, NOT_KEYED, NUMBERS_USED, SENDER, SENDER_KEYS, SHARES,
-    SHORT_OUTPUT, SHORT_TAPE,
+    self, ADDED, EDGES, LONGEST, LONG_MESSAGE, NOT_KEYED, NUMBERS_USED, RECEIVER, SENDER, SENDER_KEYS,
+    SHARES, SHORT_OUTPUT, SHORT_TAPE,
 };
 use crate::modes;
 use crate::shares;
@@ -77,7 +77,7 @@ const LAST: u32 = 0x01ff;
 fn good(tally: &Tally, length: usize) -> Seal {
     let mut random = tally.random_for(length);
     Seal {
-        link: links::link(NUMBER, LAST, &random.bytes(SENDER_KEYS)),
+        link: links::sending(NUMBER, LAST, &random.bytes(SENDER_KEYS)),
         message: random.bytes(length),
         tape: random.bytes(shares::tape_need(length)),
         record: random.bytes(length + ADDED),
@@ -98,7 +98,7 @@ pub fn messages(tally: &mut Tally) {
         tally.same(format_args!("joined tag, {length} bytes"), &tag, &plain[length + 8..]);
         let count = (shares::tape_need(length) as u32).to_be_bytes();
         tally.same(format_args!("tape count, {length} bytes"), &left.shares[48..], &count);
-        let link = links::link(NUMBER, LAST + 1, &call.link[9..]);
+        let link = links::sending(NUMBER, LAST + 1, &call.link[9..]);
         tally.same(format_args!("link, {length} bytes"), &left.link, &link);
     }
     for length in [257, 258, 272, 273, 300, 511, 512, 513, 1000, 65_536, 65_552, 65_792] {
@@ -160,7 +160,7 @@ pub fn numbers(tally: &mut Tally) {
     {
         for number in [0, 1, 0x0102_0304, u32::MAX] {
             let mut call = good(tally, 5);
-            call.link = links::link(number, last, &call.link[9..]);
+            call.link = links::sending(number, last, &call.link[9..]);
             let left = hold_answer(tally, &call, 0, last as usize).left;
             tally.same(
                 format_args!("number in record, last {last}"),
@@ -210,7 +210,7 @@ pub fn refusals(tally: &mut Tally) {
                         |call| call.link[0] = 0xff,
                         |call| call.link.clear(),
                         |call| call.link.truncate(104),
-                        |call| call.link.truncate(41),
+                        |call| call.link.truncate(RECEIVER),
                         |call| call.link.push(0),
                     ],
                 ),
@@ -253,7 +253,7 @@ pub fn refusals(tally: &mut Tally) {
 /// accepted one, and a refused one uses none.
 pub fn kept_link(tally: &mut Tally) {
     let mut random = tally.random();
-    let mut link = links::link(3, 0, &random.bytes(SENDER_KEYS));
+    let mut link = links::sending(3, 0, &random.bytes(SENDER_KEYS));
     let mut sequence = 0u32;
     for _ in 0..400 {
         let length = random.below(70);

@@ -80,6 +80,11 @@ none-both (suc k) ((n when b) ∷ cs) h l = (h .0, none-both k cs (h .1) l)
 
 -- ---- causes behind others
 
+pub first-behind : (k : ℕ) (cs : List Cause) (a : Answer) → NoneOf (take k cs) → first cs a ≡ first (drop k cs) a
+first-behind zero cs a h = refl
+first-behind (suc k) [] a h = refl
+first-behind (suc k) ((n when b) ∷ cs) a h = ap (λ (t : Bool). cond t (refused n) (first cs a)) (h .0) ∙ first-behind k cs a (h .1)
+
 pub refused-before : (n : ℕ) (cs ds : List Cause) (vs : List ℕ) (a : Answer) → first cs (done vs) ≡ refused n
     → first (cs ++ ds) a ≡ refused n
 refused-before n [] ds vs a e = absurd (done-refused n vs e)

@@ -1,9 +1,9 @@
--- What xor, and, shifts and cuts do to a bit; numbers are equal when their bits are. Assumes nothing.
-use Rattle.prelude.proofs.{_≡_, refl, sym, ap, ap₂, _∙_, Bool, true, false, not, _&&_, and-comm, ℕ, zero, suc, _+_, _-_, _*_, _/_, _%_, _^_}
-use Rattle.prelude.proofs.{_<_, lt-of-lt-of-le, mod-lt, zero-lt-suc, le-of-suc-le-suc, not-suc-le-zero, div-eq-of-lt, div-add-mod'}
-use Rattle.prelude.proofs.{mul-assoc, pow-suc, div-one, add-one, one-add, arith, eqb, bitXor, bitAnd, xor-shr, and-shr, xor-mod, and-mod}
-use Rattle.prelude.proofs.{shifted-even, pow-mono, shr-shr, shr-lt, field, mod-mod-pow, pow-add, shl-shr, pow-pos, digits-div, digits-mod}
-use Rattle.prelude.proofs.{digits-lt, lt-one}
+-- What xor, and, or, shifts and cuts do to a bit; numbers are equal when their bits are. Assumes nothing.
+use Rattle.prelude.proofs.{_≡_, refl, sym, ap, ap₂, _∙_, Bool, true, false, not, _&&_, _||_, and-comm, ℕ, zero, suc, _+_, _-_, _*_, _/_}
+use Rattle.prelude.proofs.{_%_, _^_, _<_, lt-of-lt-of-le, mod-lt, zero-lt-suc, le-of-suc-le-suc, not-suc-le-zero, div-eq-of-lt}
+use Rattle.prelude.proofs.{div-add-mod', mul-assoc, pow-suc, div-one, add-one, one-add, arith, eqb, bitXor, bitAnd, bitOr, xor-shr, and-shr}
+use Rattle.prelude.proofs.{or-shr, xor-mod, and-mod, or-mod, shifted-even, pow-mono, shr-shr, shr-lt, field, mod-mod-pow, pow-add, shl-shr}
+use Rattle.prelude.proofs.{pow-pos, digits-div, digits-mod, digits-lt, lt-one}
 use Rattle.bits.specs.Bit.{_⊻_, digit, odd, bit, number}
 
 two-cases : (P : ℕ → Type 0) → P 0 → P 1 → (n : ℕ) → n < 2 → P n
@@ -25,6 +25,13 @@ odd-and a b =
     (two-cases (λ (y : ℕ). eqb (bitAnd 1 y) 1 ≡ eqb y 1) refl refl (b % 2) (mod-lt b (zero-lt-suc 1)))
     (a % 2) (mod-lt a (zero-lt-suc 1))
 
+odd-or : (a b : ℕ) → odd (bitOr a b) ≡ (odd a || odd b)
+odd-or a b =
+    ap (λ (n : ℕ). eqb n 1) (or-mod a b 1)
+    ∙ two-cases (λ (x : ℕ). eqb (bitOr x (b % 2)) 1 ≡ (eqb x 1 || eqb (b % 2) 1)) refl
+    (two-cases (λ (y : ℕ). eqb (bitOr 1 y) 1 ≡ true) refl refl (b % 2) (mod-lt b (zero-lt-suc 1)))
+    (a % 2) (mod-lt a (zero-lt-suc 1))
+
 pub bit-xor : (a b i : ℕ) → bit (bitXor a b) i ≡ (bit a i ⊻ bit b i)
 unfolding bit
 bit-xor a b i = ap odd (xor-shr a b i) ∙ odd-xor (a / 2 ^ i) (b / 2 ^ i)
@@ -32,6 +39,10 @@ bit-xor a b i = ap odd (xor-shr a b i) ∙ odd-xor (a / 2 ^ i) (b / 2 ^ i)
 pub bit-and : (a b i : ℕ) → bit (bitAnd a b) i ≡ (bit a i && bit b i)
 unfolding bit
 bit-and a b i = ap odd (and-shr a b i) ∙ odd-and (a / 2 ^ i) (b / 2 ^ i)
+
+pub bit-or : (a b i : ℕ) → bit (bitOr a b) i ≡ (bit a i || bit b i)
+unfolding bit
+bit-or a b i = ap odd (or-shr a b i) ∙ odd-or (a / 2 ^ i) (b / 2 ^ i)
 
 pub bit-shr : (x n i : ℕ) → bit (x / 2 ^ n) i ≡ bit x (n + i)
 unfolding bit

@@ -1,7 +1,7 @@
--- A rule proved at each number below a limit, or at each choice of four bits, by one test that antt computes.
+-- Tests: what holds of their values, and a rule proved at each number below a limit, or at each choice of four bits, by one of them.
 -- Assumes nothing.
-use Rattle.prelude.proofs.{_≡_, refl, subst, Bool, true, false, _&&_, Bool·beq, ℕ, zero, suc, _<_, not-suc-le-zero, decLt, arith, T, eqb}
-use Rattle.prelude.proofs.{eqb→eq}
+use Rattle.prelude.proofs.{_≡_, refl, sym, _∙_, subst, Bool, true, false, _&&_, _||_, Bool·beq, false≢true, ℕ, zero, suc, _<_}
+use Rattle.prelude.proofs.{not-suc-le-zero, decLt, ℕ-discrete, arith, T, eqb, eqb→eq, eq-eqb, ne-eqb}
 
 pub and-left : (a b : Bool) → T (a && b) → T a
 and-left true b t = tt
@@ -10,6 +10,17 @@ and-left false b t = t
 pub and-right : (a b : Bool) → T (a && b) → T b
 and-right true b t = t
 and-right false b t = absurd t
+
+pub neither : (a b : Bool) → (a || b) ≡ false → (a ≡ false) × (b ≡ false)
+neither false b h = (refl, h)
+neither true b h = absurd (false≢true (sym h))
+
+-- two tests of facts that follow from each other
+pub same-test : (a b c d : ℕ) → (a ≡ b → c ≡ d) → (c ≡ d → a ≡ b) → eqb a b ≡ eqb c d
+same-test a b c d f g = elim (ℕ-discrete a b) [
+  | yes e ↦ eq-eqb a b e ∙ sym (eq-eqb c d (f e))
+  | no n ↦ ne-eqb a b n ∙ sym (ne-eqb c d (λ e. n (g e)))
+]
 
 -- the test f passes at each number below n
 abbrev pub each : ℕ → (ℕ → Bool) → Bool

@@ -1,5 +1,5 @@
 -- What keying a link in its bytes returns and leaves. Assumes nothing.
-use Rattle.prelude.proofs.{_≡_, refl, sym, ap, _∙_, _↔_, Bool, true, false, not, List, [], _∷_, _++_, append-nil, ℕ, _+_, arith}
+use Rattle.prelude.proofs.{_≡_, refl, sym, ap, _∙_, _↔_, Bool, true, false, not, List, [], _∷_, _++_, append-assoc, ℕ, _+_, arith}
 use Rattle.prelude.proofs.{length, take, drop, length-drop, take-append-drop, take-all, eqb, eqb-true, not-false}
 use Rattle.blocks.specs.Bytes.{part, bigEndian}
 use Rattle.answers.specs.Answer.{Answer, done, refused, _when_, first, numberOf, ifDone, FirstOf, NoneOf}
@@ -37,12 +37,12 @@ where-done true b x y l e = refl
 where-done false true x y l e = refl
 where-done false false x y l e = e refl
 
-pub two-keys : (size p q x : ℕ) (link keys : List ℕ) → let answer = keyingAnswer size (p + q) link keys in
-    ifDone answer (linkBytes true x 0 keys [] []) link ≡ ifDone answer (linkBytes true x 0 (part 0 p keys) (part p q keys) []) link
+pub two-keys : (size p q x : ℕ) (link keys tail : List ℕ) → let answer = keyingAnswer size (p + q) link keys in
+    ifDone answer (linkBytes true x 0 keys [] tail) link ≡ ifDone answer (linkBytes true x 0 (part 0 p keys) (part p q keys) tail) link
 unfolding keyingAnswer
-two-keys size p q x link keys = where-done (not (eqb (length link) size)) (not (eqb (length keys) (p + q))) _ _ link λ e.
+two-keys size p q x link keys tail = where-done (not (eqb (length link) size)) (not (eqb (length keys) (p + q))) _ _ link λ e.
     let n : length keys ≡ p + q = eqb-true (length keys) (p + q) (not-false (eqb (length keys) (p + q)) e) in
     let second : part p q keys ≡ drop p keys = take-all q (drop p keys) (simp length-drop (omega arith)) in
     ap (λ (z : List ℕ). 1 ∷ (bigEndian numberSize x ++ (bigEndian lastSize 0 ++ z)))
-    (append-nil keys ∙ sym (take-append-drop p keys)
-    ∙ ap (λ (z : List ℕ). take p keys ++ z) (sym second ∙ sym (append-nil (part p q keys))))
+    (ap (λ (z : List ℕ). z ++ tail) (sym (take-append-drop p keys)) ∙ append-assoc (take p keys) (drop p keys) tail
+    ∙ ap (λ (z : List ℕ). take p keys ++ (z ++ tail)) (sym second))

@@ -7,7 +7,7 @@ use lib.ListN.{drop, getD}
 use Rattle.blocks.specs.Bytes.{bigEndian, value, part}
 use Rattle.links.specs.Record.{numberSize}
 
--- the bytes of the last number
+-- the bytes of the last number used, of a receiver the highest accepted
 abbrev pub lastSize : ℕ
 lastSize = 4
 

@@ -15,7 +15,7 @@ const LAST_AT: usize = NUMBER_AT + links::NUMBER;
 
 pub const KEYS_AT: usize = LAST_AT + LAST;
 
-// The bytes of the last number.
+// The bytes of the last number used, of a receiver the highest accepted.
 const LAST: usize = 4;
 
 // ---- reading
@@ -68,7 +68,7 @@ fn flag_of(keyed: bool) -> u8
 pub fn put_link(
     keyed: bool,
     number: u32,
-    last: u32,
+    last: u64,
     ke: &[u8],
     km: &[u8],
     tail: &[u8],
@@ -81,25 +81,26 @@ pub fn put_link(
     let tail_at = km_at + km.len();
     blocks::put_bytes(&[flag_of(keyed)], bytes, 0);
     blocks::put_number(bytes, NUMBER_AT, links::NUMBER, number as u64);
-    blocks::put_number(bytes, LAST_AT, LAST, last as u64);
+    blocks::put_number(bytes, LAST_AT, LAST, last);
     blocks::put_bytes(ke, bytes, KEYS_AT);
     blocks::put_bytes(km, bytes, km_at);
     blocks::put_bytes(tail, bytes, tail_at);
 }
 
-// Keys a link that takes n bytes of keys: 0, or 1 where link or keys are of another length.
-pub fn key(link: &mut [u8], number: u32, keys: &[u8], n: usize) -> u32
+// Keys a link that takes n bytes of keys and has this tail: 0, or 1 where link or keys are of another length.
+pub fn key(link: &mut [u8], number: u32, keys: &[u8], n: usize, tail: &[u8]) -> u32
     requires { ⌜ n ≤ 96 ⌝ }
-    ensures { λ r. ⌜ r ≡ numberOf (keyingAnswer (linkSize n 0) n (now (link .entry)) (now (keys .entry))) ⌝ }
     ensures { λ r. let l = now (link .entry) in let k = now (keys .entry) in
-        ⌜ now (link .exit) ≡ ifDone (keyingAnswer (linkSize n 0) n l k) (linkBytes true number 0 k [] []) l ⌝ }
+        ⌜ r ≡ numberOf (keyingAnswer (linkSize n (length (now (tail .entry)))) n l k) ⌝ }
+    ensures { λ r. let l = now (link .entry) in let k = now (keys .entry) in let t = now (tail .entry) in
+        ⌜ now (link .exit) ≡ ifDone (keyingAnswer (linkSize n (length t)) n l k) (linkBytes true number 0 k [] t) l ⌝ }
 {
-    if link.len() != KEYS_AT + n {
+    if link.len() != KEYS_AT + n + tail.len() {
         return 1;
     }
     if keys.len() != n {
         return 1;
     }
-    put_link(true, number, 0, keys, b"", b"", link);
+    put_link(true, number, 0, keys, b"", tail, link);
     0
 }

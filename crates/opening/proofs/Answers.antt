@@ -1,15 +1,15 @@
--- What opening answers, by the place of its first cause, and what was read and computed for it. Assumes nothing.
-use Rattle.prelude.proofs.{_≡_, sym, ap, ap₂, _∙_, subst, Bool, List, [], _∷_, ℕ, _-_, _^_, _≤_, _<_, lt-of-lt-of-le, pow-le-pow-right}
-use Rattle.prelude.proofs.{arith, length, take, drop, length-drop, take-all}
-use Rattle.blocks.specs.Bytes.{Bytes, sameBytes, part}
-use Rattle.blocks.proofs.Numbers.{part-lt}
+-- What opening and verifying answer, by the place of the first cause, and what was read and computed for it. Assumes nothing.
+use Rattle.prelude.proofs.{_≡_, sym, ap, ap₂, _∙_, Bool, List, [], _∷_, ℕ, _-_, _≤_, arith, length, take, drop, length-drop, take-all}
+use Rattle.blocks.specs.Bytes.{sameBytes, part}
 use Rattle.answers.specs.Answer.{done, refused, NoneOf}
-use Rattle.answers.proofs.First.{Applies, numberAt, refused-at, done-none}
-use Rattle.links.specs.Record.{standard, headSize, added, sequenceIn, textIn, tagIn, numberSize}
+use Rattle.answers.proofs.First.{Applies, numberAt, refused-at, done-none, first-behind}
+use Rattle.links.specs.Record.{headSize, added, sequenceIn, textIn, tagIn}
 use Rattle.links.specs.declared.Form.{Form}
 use Rattle.plain.specs.Plain.{crypted, macOf, tagOf}
+use Rattle.window.specs.Window.{after}
+use Rattle.window.specs.declared.Window.{Window}
 use Rattle.opening.specs.declared.Receiver.{Receiver}
-use Rattle.opening.specs.Open.{openAnswer, openCauses, messageIn, messageSize, rightTag}
+use Rattle.opening.specs.Open.{openAnswer, openCauses, verifyAnswer, verifyCauses, accepting, messageIn, messageSize, rightTag}
 
 module _ (f : Form) (C : List ℕ → List ℕ → List ℕ) (x : Receiver) (r : List ℕ) where
   module _ (o : ℕ) where
@@ -18,9 +18,20 @@ module _ (f : Form) (C : List ℕ → List ℕ → List ℕ) (x : Receiver) (r :
     unfolding openAnswer
     open-refused k = refused-at k (openCauses f C x r o) _
 
-    pub open-done : NoneOf (openCauses f C x r o) → openAnswer f C x r o ≡ done (messageSize f r ∷ [])
-    unfolding openAnswer
-    open-done = done-none (openCauses f C x r o) _
+    -- its form is right, so that its number and its tag decide
+    pub open-verified : NoneOf (take 5 (openCauses f C x r o)) → openAnswer f C x r o ≡ verifyAnswer f C x r
+    unfolding openAnswer verifyAnswer
+    open-verified = first-behind 5 (openCauses f C x r o) _
+
+  -- the cause at place k is the first to refuse its number or its tag
+  pub verify-refused : (k : ℕ) → NoneOf (take k (verifyCauses f C x r)) → Applies k (verifyCauses f C x r)
+      → verifyAnswer f C x r ≡ refused (numberAt k (verifyCauses f C x r))
+  unfolding verifyAnswer
+  verify-refused k = refused-at k (verifyCauses f C x r) _
+
+  pub verify-done : NoneOf (verifyCauses f C x r) → verifyAnswer f C x r ≡ done (messageSize f r ∷ [])
+  unfolding verifyAnswer
+  verify-done = done-none (verifyCauses f C x r) _
 
   -- the sequence number s was read, and the text of k bytes from h to e
   module _ (s h k e : ℕ) (long : added f ≤ length r) (es : s ≡ sequenceIn f r) (eh : h ≡ headSize f) (ek : k ≡ messageSize f r) where
@@ -38,10 +49,16 @@ module _ (f : Form) (C : List ℕ → List ℕ → List ℕ) (x : Receiver) (r :
         eb ∙ ap₂ sameBytes (ap (take (f .tag)) et ∙ (λ i. tagOf f (C (x .km)) (x .number) (es i) (text i)))
         (take-all (f .tag) (drop e r) d ∙ ap (λ (i : ℕ). drop i r) ee)
 
--- a sequence number no longer than the standard one fits where links keep their last
-pub sequence-fits : (f : Form) (r : List ℕ) → Bytes r → headSize f ≤ length r → f .sequence ≤ standard .sequence → {s : ℕ}
-    → s ≡ sequenceIn f r → s < 2 ^ 32
-sequence-fits f r b h l e =
-    subst (λ (n : ℕ). n < 2 ^ 32) (sym e)
-    (lt-of-lt-of-le (part-lt numberSize (f .sequence) r b (omega arith))
-    (pow-le-pow-right {n = 256} (omega arith) {i = f .sequence} {j = standard .sequence} l))
+-- ---- the number m was read as s
+
+module _ {s m : ℕ} (es : s ≡ m) where
+  -- a test of it on a window gave v
+  pub tested : (w : Window) (test : Window → ℕ → Bool) {b v : Bool} → b ≡ test w s → b ≡ v → test w m ≡ v
+  tested w test eb ev = sym (eb ∙ ap (test w) es) ∙ ev
+
+  -- a link's window was moved to w
+  pub window-moved : (x : Receiver) {w : Window} → w ≡ after (x .window) s
+      → record { keyed = x .keyed; number = x .number; window = w; ke = x .ke; km = x .km } ≡ accepting x m
+  window-moved x ew =
+      ap {B = Receiver} (λ (w : Window). record { keyed = x .keyed; number = x .number; window = w; ke = x .ke; km = x .km })
+      (ew ∙ ap (after (x .window)) es)

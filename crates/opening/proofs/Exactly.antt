@@ -1,11 +1,11 @@
--- Opening accepts exactly the records that sealing makes for this link with a number above the last accepted, returns that message, and
--- refuses the record from then on: of any form that a record can have, under any cipher that makes blocks of blocks. Assumes nothing.
+-- Opening accepts exactly the records that sealing makes for this link with a number that its window admits, and returns that message: of
+-- any form that a record can have, under any cipher that makes blocks of blocks. Assumes nothing.
 use Rattle.prelude.proofs.{_≡_, refl, sym, ap, ap₂, _∙_, subst, _↔_, true, not, List, [], _∷_, ℕ, _^_, _≤_, _<_, arith, eqb, length}
-use Rattle.prelude.proofs.{ltb-false, leb-false, eqb-true, not-false, le-ltb, le-leb, lt-leb}
+use Rattle.prelude.proofs.{inl, ltb-false, eqb-true, not-false, le-ltb}
 use Rattle.blocks.specs.Bytes.{Bytes, Block, MakesBlocks, sameBytes, part, put}
 use Rattle.blocks.proofs.{Parts.part-length, Parts.part-bytes, Numbers.part-lt, Same.same-true, Same.same-refl}
 use Rattle.answers.specs.Answer.{done, refused, Accepts, FirstOf, NoneOf}
-use Rattle.answers.proofs.First.{refused-at, done-none, accepts-none, accepts-done, none-accepts, if-done, if-refused, eq-not}
+use Rattle.answers.proofs.First.{done-none, accepts-none, none-accepts, if-done, if-refused, eq-not}
 use Rattle.answers.proofs.First as First
 use Rattle.links.specs.Record.{Proper, longest, added, recordSize, numberSize, headSize, recordOf, linkIn, sequenceIn, textIn, tagIn}
 use Rattle.links.specs.declared.Form.{Form}
@@ -13,6 +13,8 @@ use Rattle.links.proofs.Record.{record-made}
 use Rattle.plain.specs.Plain.{crypted, tagOf, plainRecord}
 use Rattle.plain.proofs.Sealed.{crypted-length, crypted-bytes, crypted-twice, plain-length, plain-link, plain-sequence, plain-text}
 use Rattle.plain.proofs.Sealed.{plain-tag}
+use Rattle.window.specs.Window.{Admitted}
+use Rattle.window.proofs.Admits.{passes-admitted, admitted-passes}
 use Rattle.opening.specs.Open.{openAnswer, openCauses, openLink, openOutput, accepting, messageIn, messageSize, rightTag}
 use Rattle.opening.specs.Exactly.{Formed, Opens, Sealed}
 use Rattle.opening.specs.{declared.Receiver.Receiver, Receivers.receiverKeys, Receivers.receiverOf}
@@ -44,13 +46,13 @@ module _ (f : Form) (P : Proper f) (C : List ℕ → List ℕ → List ℕ) (M :
         let high : length r ≤ recordSize f longest = ltb-false (recordSize f longest) (length r) (h .1 .1 .0) in
         let link : linkIn r ≡ n = eqb-true (linkIn r) n (not-false (eqb (linkIn r) n) (h .1 .1 .1 .0)) in
         let tag : rightTag f C x r ≡ tagIn f r =
-        same-true (rightTag f C x r) (tagIn f r) (not-false (sameBytes (rightTag f C x r) (tagIn f r)) (h .1 .1 .1 .1 .1 .1 .0)) in
+        same-true (rightTag f C x r) (tagIn f r) (not-false (sameBytes (rightTag f C x r) (tagIn f r)) (h .1 .1 .1 .1 .1 .1 .1 .0)) in
         let text : crypted E n s (messageIn f C x r) ≡ textIn f r = crypted-twice E e-makes n s (textIn f r) in
         let l = crypted-length E e-makes n s (textIn f r) ∙ part-length (headSize f) (messageSize f r) r (omega arith) in
         record {
           size = omega arith;
           bytes = crypted-bytes E e-makes n s (textIn f r) (part-bytes (headSize f) (messageSize f r) r b);
-          above = leb-false s (x .last) (h .1 .1 .1 .1 .1 .0);
+          admitted = passes-admitted (x .window) s (h .1 .1 .1 .1 .1 .0) (h .1 .1 .1 .1 .1 .1 .0);
           fits = part-lt numberSize (f .sequence) r b (omega arith);
           made =
               sym (record-made f r b low) ∙ ap₂ (λ (k : ℕ) (t : List ℕ). recordOf f k s (textIn f r) t) link (sym tag)
@@ -83,18 +85,17 @@ module _ (f : Form) (P : Proper f) (C : List ℕ → List ℕ → List ℕ) (M :
     sealed-none : (o : ℕ) → x .keyed ≡ true → length r ≤ recordSize f o → NoneOf (openCauses f C x r o)
     sealed-none o keyed room =
         let l = long in
-        let e = sequence in
         let same = ap (λ (t : List ℕ). not (sameBytes (rightTag f C x r) t)) (sym tag) ∙ ap not (same-refl (rightTag f C x r)) in
-        let newer = lt-leb (sequenceIn f r) (x .last) (omega arith) in
+        let new = admitted-passes (x .window) (sequenceIn f r) (subst (λ (t : ℕ). Admitted (x .window) t) (sym sequence) (S .admitted)) in
         let fits = le-ltb o (messageSize f r) (omega arith) in
         let short = le-ltb (recordSize f longest) (length r) (omega arith) in
         let long = le-ltb (length r) (recordSize f 0) (omega arith) in
-        (ap not keyed, (long, (short, (eq-not (linkIn r) (x .number) link, (fits, (newer, (same, tt)))))))
+        (ap not keyed, (long, (short, (eq-not (linkIn r) (x .number) link, (fits, (new .0, (new .1, (same, tt))))))))
 
   -- ---- accepted exactly
 
   -- opening accepts, whatever values it returns, exactly where the link is keyed, the output has room for the message, and the record is
-  -- one that sealing makes for this link with a number above the last accepted
+  -- one that sealing makes for this link with a number that its window admits
   pub accepts-exactly : (r o : List ℕ) → Bytes r → Accepts (openAnswer f C x r (length o))
       ↔ ((x .keyed ≡ true) × (length r ≤ recordSize f (length o)) × ((m : List ℕ) × (s : ℕ) × Sealed f C x r m s))
   unfolding openAnswer
@@ -126,19 +127,6 @@ module _ (f : Form) (P : Proper f) (C : List ℕ → List ℕ → List ℕ) (M :
   sealed-once r m m′ s s′ S S′ = (sym (message r m s S) ∙ message r m′ s′ S′, sym (sequence r m s S) ∙ sequence r m′ s′ S′)
 
 module _ (f : Form) (C : List ℕ → List ℕ → List ℕ) (x : Receiver) where
-  -- ---- an accepted record is refused from then on, on the link that came back
-
-  pub refused-again : (r o : List ℕ) (p : ℕ) → Accepts (openAnswer f C x r (length o)) → messageSize f r ≤ p
-      → openAnswer f C (openLink f C x r (length o)) r p ≡ refused 22
-  unfolding openAnswer
-  refused-again r o p e room =
-      let h = accepts-none (openCauses f C x r (length o)) _ tt e in
-      let y = accepting x (sequenceIn f r) in
-      let fits = le-ltb p (messageSize f r) room in
-      subst (λ (z : Receiver). openAnswer f C z r p ≡ refused 22) (if-done (accepts-done (openCauses f C x r (length o)) _ tt e) y x)
-      (refused-at 5 (openCauses f C y r p) _ (h .0, (h .1 .0, (h .1 .1 .0, (h .1 .1 .1 .0, (fits, tt)))))
-      (le-leb (sequenceIn f r) (sequenceIn f r) (omega arith)))
-
   -- ---- each refusal number has exactly its cause, in their order
 
   pub refused-exactly : (r : List ℕ) (o n : ℕ) → openAnswer f C x r o ≡ refused n ↔ FirstOf n (openCauses f C x r o)
@@ -169,4 +157,4 @@ keyed-opens f P C M n s keys m o h e b above fits bm size room =
     let F = keyed-formed n keys h e b in
     let l = plain-length f P _ _ (M _ (F .ke)) (M _ (F .km)) n s m bm in
     opened-exactly f P C M (receiverOf n keys) F _ o m s refl (omega arith)
-    (record { size = size; bytes = bm; above = above; fits = fits; made = refl })
+    (record { size = size; bytes = bm; admitted = (above, inl above); fits = fits; made = refl })

@@ -9,6 +9,7 @@ use Rattle.answers.specs.Answer.{done}
 use Rattle.links.specs.Record.{numberSize, longest}
 use Rattle.links.specs.declared.Form.{Form}
 use Rattle.plain.specs.Plain.{plainRecord}
+use Rattle.window.specs.Window.{Admitted}
 use Rattle.opening.specs.declared.Receiver.{Receiver}
 use Rattle.opening.specs.Open.{openAnswer, openLink, openOutput}
 
@@ -26,10 +27,10 @@ module _ (f : Form) (C : List ℕ → List ℕ → List ℕ) where
     pub link : openLink f C x r (length o) ≡ y
     pub out : openOutput f C x r o ≡ put 0 m o
 
-  -- r is the record that sealing makes of the message m for the link x with the number s, above the last accepted
+  -- r is the record that sealing makes of the message m for the link x with the number s, which its window admits
   pub record Sealed (x : Receiver) (r m : List ℕ) (s : ℕ) : Type 0 where
     pub size : length m ≤ longest
     pub bytes : Bytes m
-    pub above : x .last < s
+    pub admitted : Admitted (x .window) s
     pub fits : s < 256 ^ f .sequence
     pub made : r ≡ plainRecord f (C (x .ke)) (C (x .km)) (x .number) s m

@@ -1,3 +1,4 @@
 pub mod Receivers
 pub mod Open
 pub mod Exactly
+pub mod History

@@ -3,16 +3,18 @@
 use mathlib.Core.Bool.{not}
 use mathlib.Core.List.{List, [], _∷_}
 use Prim.Native.Nat.{ℕ, _-_, _≤_}
-use lib.Dec.{eqb, leb, ltb}
+use lib.Dec.{eqb, ltb}
 use lib.ListN.{length}
 use Rattle.blocks.specs.Bytes.{sameBytes}
 use Rattle.answers.specs.Answer.{Answer, done, refused, Cause, _when_, first, ifDone, output}
 use Rattle.links.specs.Record.{longest, added, recordSize, linkIn, sequenceIn, textIn, tagIn}
 use Rattle.links.specs.declared.Form.{Form}
 use Rattle.plain.specs.Plain.{crypted, tagOf}
+use Rattle.window.specs.Window.{below, repeated, after}
 use Rattle.opening.specs.declared.Receiver.{Receiver}
 use Rattle.opening.specs.declared.OpenAnswer.{OpenAnswer}
-use Rattle.opening.specs.declared.OpenAnswer.the-variants.{Opened, NotKeyed, BadLength, OtherLink, ShortOutput, OldNumber, WrongTag}
+use Rattle.opening.specs.declared.OpenAnswer.the-variants.{Opened, NotKeyed, BadLength, OtherLink, ShortOutput, BelowWindow}
+use Rattle.opening.specs.declared.OpenAnswer.the-variants.{Repeated, WrongTag}
 
 abbrev pub openSays : OpenAnswer → Answer
 openSays (Opened n) = done (n ∷ [])
@@ -20,7 +22,8 @@ openSays NotKeyed = refused 20
 openSays BadLength = refused 7
 openSays OtherLink = refused 8
 openSays ShortOutput = refused 4
-openSays OldNumber = refused 22
+openSays BelowWindow = refused 35
+openSays Repeated = refused 22
 openSays WrongTag = refused 9
 
 -- bytes as many as a record of that form can have
@@ -34,7 +37,7 @@ messageSize f r = length r - added f
 
 -- the link with the sequence number s accepted
 abbrev pub accepting : Receiver → ℕ → Receiver
-accepting x s = record { keyed = x .keyed; number = x .number; last = s; ke = x .ke; km = x .km }
+accepting x s = record { keyed = x .keyed; number = x .number; window = after (x .window) s; ke = x .ke; km = x .km }
 
 module _ (f : Form) (C : List ℕ → List ℕ → List ℕ) (x : Receiver) (r : List ℕ) where
   -- the tag that the record should have, and the message that it holds
@@ -44,6 +47,17 @@ module _ (f : Form) (C : List ℕ → List ℕ → List ℕ) (x : Receiver) (r :
   abbrev pub messageIn : List ℕ
   messageIn = crypted (C (x .ke)) (x .number) (sequenceIn f r) (textIn f r)
 
+  -- verifying its number and its tag
+  abbrev pub verifyCauses : List Cause
+  verifyCauses =
+      (35 when below (x .window) (sequenceIn f r))
+      ∷ (22 when repeated (x .window) (sequenceIn f r))
+      ∷ (9 when not (sameBytes rightTag (tagIn f r)))
+      ∷ []
+
+  unfoldable pub verifyAnswer : Answer
+  verifyAnswer = first verifyCauses (done (messageSize f r ∷ []))
+
   -- opening the record r on the link x with room for o bytes
   abbrev pub openCauses : ℕ → List Cause
   openCauses o =
@@ -52,9 +66,7 @@ module _ (f : Form) (C : List ℕ → List ℕ → List ℕ) (x : Receiver) (r :
       ∷ (7 when ltb (recordSize f longest) (length r))
       ∷ (8 when not (eqb (linkIn r) (x .number)))
       ∷ (4 when ltb o (messageSize f r))
-      ∷ (22 when leb (sequenceIn f r) (x .last))
-      ∷ (9 when not (sameBytes rightTag (tagIn f r)))
-      ∷ []
+      ∷ verifyCauses
 
   unfoldable pub openAnswer : ℕ → Answer
   openAnswer o = first (openCauses o) (done (messageSize f r ∷ []))

@@ -1,23 +1,24 @@
 // The receiving link: what a receiver holds between two calls, its keying, and opening.
 use links::Form;
 use links::KeyAnswer;
+use window::Window;
 ghost use mathlib.Core.Path.{_≡_};
 ghost use Prim.Native.Nat.{_≤_};
 ghost use lib.ListN.{length};
 ghost use Rattle.blocks.specs.Bytes.{sameBytes, put};
-ghost use Rattle.answers.specs.Answer.{numberOf, ifDone};
+ghost use Rattle.answers.specs.Answer.{numberOf, ifDone, output};
 ghost use Rattle.baksheesh.specs.Baksheesh.{encrypt};
 ghost use Rattle.links.specs.Links.{keySays, keyAnswer};
 ghost use Rattle.links.specs.Record.{standard, Proper, sequenceIn, tagIn};
-ghost use Rattle.opening.specs.Open.{RecordSized, messageSize, rightTag, messageIn};
+ghost use Rattle.opening.specs.Open.{RecordSized, messageSize, accepting, rightTag, messageIn, verifyAnswer};
 ghost use Rattle.opening.specs.Open.{openSays, openAnswer, openLink, openOutput};
 ghost use Rattle.opening.specs.Receivers.{receiverKeys, freshReceiver, receiverOf};
 
-// The link's number, the last sequence number accepted, and the keys KE and KM.
+// The link's number, the window of the sequence numbers accepted, and the keys KE and KM.
 pub struct Receiver {
     pub keyed: bool,
     pub number: u32,
-    pub last: u32,
+    pub window: Window,
     pub ke: [u8; 16],
     pub km: [u8; 16],
 }
@@ -34,7 +35,8 @@ pub enum OpenAnswer {
     BadLength,
     OtherLink,
     ShortOutput,
-    OldNumber,
+    BelowWindow,
+    Repeated,
     WrongTag,
 }
 
@@ -49,7 +51,8 @@ impl OpenAnswer {
             OpenAnswer::BadLength => 7,
             OpenAnswer::OtherLink => 8,
             OpenAnswer::ShortOutput => 4,
-            OpenAnswer::OldNumber => 22,
+            OpenAnswer::BelowWindow => 35,
+            OpenAnswer::Repeated => 22,
             OpenAnswer::WrongTag => 9,
         }
     }
@@ -90,9 +93,46 @@ fn put_message(form: Form, link: Receiver, sealed: &[u8], sequence: u64, out: &m
     ctrmac::crypt(ke, link.number, sequence, &sealed[head..end], out, 0);
 }
 
-// Opens a record of the given form, and hands the link back: with the record's number where it was accepted.
+// Verifies the number and the tag of a record, and opens it; its message has `len` bytes.
+fn verify(
+    form: Form,
+    link: Receiver,
+    sealed: &[u8],
+    sequence: u64,
+    len: usize,
+    out: &mut [u8],
+) -> Opening
+    requires { ⌜ Proper form × RecordSized form (now sealed) × (sequence ≡ sequenceIn form (now sealed)) ⌝ }
+    requires { ⌜ (len ≡ messageSize form (now sealed)) × (len ≤ length (now out)) ⌝ }
+    ensures { λ r. ⌜ openSays (r .answer) ≡ verifyAnswer form encrypt link (now (sealed .entry)) ⌝ }
+    ensures { λ r. ⌜ r .link
+        ≡ ifDone (verifyAnswer form encrypt link (now (sealed .entry))) (accepting link (sequenceIn form (now (sealed .entry)))) link ⌝ }
+    ensures { λ r. ⌜ now (out .exit)
+        ≡ output (verifyAnswer form encrypt link (now (sealed .entry))) (messageIn form encrypt link (now (sealed .entry)))
+        (now (out .entry)) ⌝ }
+{
+    let window = link.window;
+    if window.below(sequence) {
+        return refused(link, OpenAnswer::BelowWindow);
+    }
+    if window.repeated(sequence) {
+        return refused(link, OpenAnswer::Repeated);
+    }
+    if !has_tag(form, link, sealed, sequence) {
+        return refused(link, OpenAnswer::WrongTag);
+    }
+    put_message(form, link, sealed, sequence, out);
+    let mut next = link;
+    next.window = window.after(sequence);
+    Opening {
+        answer: OpenAnswer::Opened { len },
+        link: next,
+    }
+}
+
+// Opens a record of the given form, and hands the link back: its window moved where the record was accepted.
 fn open_in(form: Form, link: Receiver, sealed: &[u8], out: &mut [u8]) -> Opening
-    requires { ⌜ Proper form × (form .sequence ≤ standard .sequence) ⌝ }
+    requires { ⌜ Proper form ⌝ }
     ensures { λ r. ⌜ openSays (r .answer) ≡ openAnswer form encrypt link (now (sealed .entry)) (length (now (out .entry))) ⌝ }
     ensures { λ r. ⌜ r .link ≡ openLink form encrypt link (now (sealed .entry)) (length (now (out .entry))) ⌝ }
     ensures { λ r. ⌜ now (out .exit) ≡ openOutput form encrypt link (now (sealed .entry)) (now (out .entry)) ⌝ }
@@ -117,20 +157,7 @@ fn open_in(form: Form, link: Receiver, sealed: &[u8], out: &mut [u8]) -> Opening
         return refused(link, OpenAnswer::ShortOutput);
     }
     let sequence = blocks::number_at(sealed, links::NUMBER, form.sequence);
-    let last = link.last as u64;
-    if sequence <= last {
-        return refused(link, OpenAnswer::OldNumber);
-    }
-    if !has_tag(form, link, sealed, sequence) {
-        return refused(link, OpenAnswer::WrongTag);
-    }
-    put_message(form, link, sealed, sequence, out);
-    let mut next = link;
-    next.last = sequence as u32;
-    Opening {
-        answer: OpenAnswer::Opened { len },
-        link: next,
-    }
+    verify(form, link, sealed, sequence, len, out)
 }
 
 impl Receiver {
@@ -141,7 +168,7 @@ impl Receiver {
         Receiver {
             keyed: false,
             number: 0,
-            last: 0,
+            window: Window::empty(),
             ke: [0; 16],
             km: [0; 16],
         }
@@ -165,14 +192,14 @@ impl Receiver {
             link: Receiver {
                 keyed: true,
                 number,
-                last: 0,
+                window: Window::empty(),
                 ke,
                 km,
             },
         }
     }
 
-    // Opens a record, and hands the link back: with the record's number where it was accepted.
+    // Opens a record, and hands the link back: its window moved where the record was accepted.
     pub fn open(self, sealed: &[u8], out: &mut [u8]) -> Opening
         ensures { λ r. ⌜ openSays (r .answer) ≡ openAnswer standard encrypt self (now (sealed .entry)) (length (now (out .entry))) ⌝ }
         ensures { λ r. ⌜ r .link ≡ openLink standard encrypt self (now (sealed .entry)) (length (now (out .entry))) ⌝ }

@@ -56,7 +56,7 @@ pub extern "C" fn rasppuce_key_sender(link: &mut [u8], number: u32, keys: &[u8])
     ensures { λ r. ⌜ r ≡ numberOf (senderKeying (now (link .entry)) (now (keys .entry))) ⌝ }
     ensures { λ r. ⌜ now (link .exit) ≡ keyedSender (now (link .entry)) number (now (keys .entry)) ⌝ }
 {
-    layout::key(link, number, keys, 96)
+    sending::key(link, number, keys)
 }
 
 // Seals a message on shares, with the masks of the tape.
@@ -128,7 +128,7 @@ pub extern "C" fn rasppuce_key_receiver(link: &mut [u8], number: u32, keys: &[u8
     ensures { λ r. ⌜ r ≡ numberOf (receiverKeying (now (link .entry)) (now (keys .entry))) ⌝ }
     ensures { λ r. ⌜ now (link .exit) ≡ keyedReceiver (now (link .entry)) number (now (keys .entry)) ⌝ }
 {
-    layout::key(link, number, keys, 32)
+    receiving::key(link, number, keys)
 }
 
 // Opens a record.

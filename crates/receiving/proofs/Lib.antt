@@ -1,3 +1,4 @@
 pub mod Stored
 pub mod Opening
 pub mod Exactly
+pub mod History

@@ -1,13 +1,18 @@
-// Opening on a receiving link in its bytes: 0 is returned, or the refusal's number.
+// The calls on a receiving link in its bytes: each returns 0 or the refusal's number.
 use opening::Receiver;
+use window::Window;
 ghost use mathlib.Core.Path.{_≡_};
 ghost use lib.ListN.{length};
 ghost use Rattle.answers.specs.Answer.{numberOf};
 ghost use Rattle.receiving.specs.Stored.{receiverSize, receiverIn, receiverBytes};
-ghost use Rattle.receiving.specs.Calls.{openedAnswer, openedLink, openedOutput};
+ghost use Rattle.receiving.specs.Calls.{receiverKeying, keyedReceiver, openedAnswer, openedLink, openedOutput};
 
-// The bytes of a link, with no tail.
-const SIZE: usize = layout::KEYS_AT + 32;
+// Where the window's word begins, its bytes, and those of a link.
+const WORD_AT: usize = layout::KEYS_AT + 32;
+
+const WORD: usize = 8;
+
+const SIZE: usize = WORD_AT + WORD;
 
 fn load(bytes: &[u8]) -> Receiver
     ensures { λ r. ⌜ r ≡ receiverIn (now (bytes .entry)) ⌝ }
@@ -18,7 +23,10 @@ fn load(bytes: &[u8]) -> Receiver
     Receiver {
         keyed: layout::keyed(bytes),
         number: layout::number(bytes),
-        last: layout::last(bytes),
+        window: Window {
+            highest: layout::last(bytes) as u64,
+            accepted: blocks::number_at(bytes, WORD_AT, WORD),
+        },
         ke: layout::key_block(bytes, 0),
         km: layout::key_block(bytes, 16),
     }
@@ -30,7 +38,18 @@ fn store(x: Receiver, bytes: &mut [u8])
 {
     let ke = x.ke;
     let km = x.km;
-    layout::put_link(x.keyed, x.number, x.last, &ke, &km, b"", bytes);
+    let window = x.window;
+    let mut word = [0u8; 8];
+    blocks::put_number(&mut word, 0, WORD, window.accepted);
+    layout::put_link(x.keyed, x.number, window.highest, &ke, &km, &word, bytes);
+}
+
+// Keys the link: KE, then KM. Its window is empty.
+pub fn key(link: &mut [u8], number: u32, keys: &[u8]) -> u32
+    ensures { λ r. ⌜ r ≡ numberOf (receiverKeying (now (link .entry)) (now (keys .entry))) ⌝ }
+    ensures { λ r. ⌜ now (link .exit) ≡ keyedReceiver (now (link .entry)) number (now (keys .entry)) ⌝ }
+{
+    layout::key(link, number, keys, 32, &[0; 8])
 }
 
 // Opens a record.

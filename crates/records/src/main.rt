@@ -118,12 +118,50 @@ fn refused_tags(link: Receiver, record: [u8; 41]) {
     try_damaged(b"open damaged sequence ", link, record, 4);
 }
 
+// The tenth record: sealing and opening it refused in many ways, then it is opened, and refused again.
+fn tenth(link: Receiver, keys: &[u8], message: &[u8]) -> Receiver {
+    let mut record = [0u8; 41];
+    let mut out = [0u8; 256];
+    refused_seals(keys, message);
+    try_seal(b"seal 17 bytes ", keys, 10, message, &mut record);
+    refused_unread(link, record);
+    refused_tags(link, record);
+    let opened = open_record(link, &record);
+    try_open(b"open again ", opened, &record, &mut out);
+    opened
+}
+
+// Seals a message under this number, and prints the number and what opening gives.
+fn open_number(link: Receiver, keys: &[u8], message: &[u8], sequence: u32) -> Receiver {
+    let mut record = [0u8; 41];
+    let mut out = [0u8; 17];
+    plain::seal(keys, NUMBER, sequence, message, &mut record);
+    let opening = link.open(&record, &mut out);
+    let answer = opening.answer;
+    show::word(b"open ");
+    show::number(sequence as u64);
+    show::tried(b"", answer.number() as u64);
+    let next = opening.link;
+    next
+}
+
+// The tenth record, and then numbers out of turn: at the window's edges, and again.
+fn from_the_tenth(link: Receiver, keys: &[u8], message: &[u8]) {
+    let mut x = tenth(link, keys, message);
+    x = open_number(x, keys, message, 74);
+    x = open_number(x, keys, message, 11);
+    x = open_number(x, keys, message, 11);
+    x = open_number(x, keys, message, 10);
+    x = open_number(x, keys, message, 73);
+    x = open_number(x, keys, message, 138);
+    x = open_number(x, keys, message, 74);
+    open_number(x, keys, message, 75);
+}
+
 fn main() {
     let mut keys = [0u8; 32];
     let mut message = [0u8; 256];
     let mut short_message = [0u8; 17];
-    let mut record = [0u8; 41];
-    let mut out = [0u8; 256];
     show::fill(&mut keys, 0, 1);
     show::fill(&mut message, 3, 7);
     show::fill(&mut short_message, 3, 7);
@@ -133,10 +171,5 @@ fn main() {
         let next = case(link, &keys, &message, i);
         link = next;
     }
-    refused_seals(&keys, &short_message);
-    try_seal(b"seal 17 bytes ", &keys, 10, &short_message, &mut record);
-    refused_unread(link, record);
-    refused_tags(link, record);
-    let opened = open_record(link, &record);
-    try_open(b"open again ", opened, &record, &mut out);
+    from_the_tenth(link, &keys, &short_message);
 }

@@ -12,6 +12,7 @@ ghost use Rattle.answers.specs.Answer.{numberOf, valuesOf};
 ghost use Rattle.calls.specs.Entry.{reportAnswer, reportOutput};
 ghost use Rattle.sealing.specs.Says.{sealSays};
 ghost use Rattle.sending.specs.Stored.{senderSize, senderIn, senderBytes};
+ghost use Rattle.sending.specs.Calls.{senderKeying, keyedSender};
 ghost use Rattle.sending.specs.Calls.{countSize, sharesSize, sealedAnswer, sealedLink, recordOutput, sharesOutput};
 
 // The bytes of a link, with no tail.
@@ -47,7 +48,15 @@ fn store(x: Sender, bytes: &mut [u8])
 {
     let ke = x.ke;
     let km = x.km;
-    layout::put_link(x.keyed, x.number, x.last, &ke, &km, b"", bytes);
+    layout::put_link(x.keyed, x.number, x.last as u64, &ke, &km, b"", bytes);
+}
+
+// Keys the link: three shares of KE, then three of KM.
+pub fn key(link: &mut [u8], number: u32, keys: &[u8]) -> u32
+    ensures { λ r. ⌜ r ≡ numberOf (senderKeying (now (link .entry)) (now (keys .entry))) ⌝ }
+    ensures { λ r. ⌜ now (link .exit) ≡ keyedSender (now (link .entry)) number (now (keys .entry)) ⌝ }
+{
+    layout::key(link, number, keys, 96, b"")
 }
 
 // ---- sealing

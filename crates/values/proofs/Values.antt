@@ -5,9 +5,11 @@ use Rattle.blocks.specs.Bytes.{_⊕_, zeros, sameBytes, tab, bigEndian, value}
 use Rattle.blocks.specs.Bits.{blockOf, bitAt, cells, rearranged, eachCell}
 use Rattle.blocks.proofs.Same.{both-true, same-true}
 use Rattle.baksheesh.specs.Baksheesh.{constant}
-use Rattle.modes.specs.Cmac.{doubled}
+use Rattle.modes.specs.Cmac.{doubled, chain, lastBlock, subkey₁, cmac}
 use Rattle.links.specs.Record.{counterBlock, recordOf}
 use Rattle.masking.specs.Sbox.{sboxShare}
+use Rattle.window.specs.Window.{shifted}
+use Rattle.opening.specs.Open.{openAnswer}
 use Rattle.values.specs.Values.{Row, _is_, rows, Hold}
 
 -- one test over all rows
@@ -21,5 +23,6 @@ hold [] e = tt
 hold ((a is b) ∷ rs) e = let both = both-true (sameBytes a b) (same rs) e in (same-true a b (both .0), hold rs (both .1))
 
 pub values-hold : Hold rows
-unfolding same bit blockOf bitAt cells rearranged eachCell constant doubled sboxShare counterBlock recordOf bigEndian value tab _⊕_ zeros
+unfolding same bit blockOf bitAt cells rearranged eachCell constant doubled chain lastBlock subkey₁ cmac sboxShare counterBlock recordOf
+    bigEndian value tab _⊕_ zeros shifted openAnswer
 values-hold = hold rows refl

@@ -1,5 +1,6 @@
 -- Values to hold: each row has what the definitions give, and what it has to be. Assumes nothing.
 use mathlib.Core.Path.{_≡_}
+use mathlib.Core.Bool.{true}
 use mathlib.Core.List.{List, [], _∷_, _++_}
 use Prim.Native.Nat.{ℕ, _+_, _*_}
 use lib.Dec.{eqb}
@@ -16,6 +17,12 @@ use Rattle.masking.specs.Shares.{sharesIn, flat}
 use Rattle.masking.specs.Sbox.{sboxShares}
 use Rattle.masking.specs.Call.{shareRound}
 use Rattle.calls.specs.Numbered.{tapeNeed}
+use Rattle.answers.specs.Answer.{numberOf}
+use Rattle.window.specs.Window.{empty, after}
+use Rattle.window.specs.declared.Window.{Window}
+use Rattle.opening.specs.Open.{openAnswer}
+use Rattle.opening.specs.declared.Receiver.{Receiver}
+use Rattle.receiving.specs.Stored.{receiverBytes}
 
 -- the block with only bit i set
 abbrev pub onlyBit : ℕ → List ℕ
@@ -32,6 +39,24 @@ ofCells a b c = ofCell a ++ (ofCell b ++ ofCell c)
 -- what the shared S-box makes of such shares
 abbrev pub shared : ℕ → ℕ → ℕ → List ℕ
 shared a b c = flat (sboxShares (sharesIn (ofCells a b c)))
+
+-- the windows after 1, 3 and 2 were accepted, in this order, and after 66 too
+abbrev pub early : Window
+early = after (after (after empty 1) 3) 2
+
+abbrev pub later : Window
+later = after early 66
+
+abbrev pub fields : Window → List ℕ
+fields w = w .highest ∷ w .accepted ∷ []
+
+-- the receiver of link 7 with the window w
+abbrev pub receiverWith : Window → Receiver
+receiverWith w = record { keyed = true; number = 7; window = w; ke = replicate 16 0xaa; km = replicate 16 0xbb }
+
+-- what it answers to the record of 24 bytes with the number s and a tag of zeros, where CMAC uses a function that changes no block
+abbrev pub answered : Window → ℕ → ℕ
+answered w s = numberOf (openAnswer standard (λ k b. b) (receiverWith w) (recordOf standard 7 s [] zeros) 0)
 
 infix 20 _is_
 pub data Row : Type 0 where
@@ -71,6 +96,17 @@ rows =
     is (0 ∷ 0 ∷ 0 ∷ 0 ∷ 0x10 ∷ 0 ∷ 0 ∷ 2 ∷ 0 ∷ 0 ∷ 0 ∷ 3 ∷ 1 ∷ 0xff ∷ 0xff ∷ 0xff ∷ 0xff ∷ []))
     -- the tape need of a message of 0, 1, 16, 17 and 256 bytes
     ∷ ((tapeNeed 0 ∷ tapeNeed 1 ∷ tapeNeed 16 ∷ tapeNeed 17 ∷ tapeNeed 256 ∷ []) is (2304 ∷ 4544 ∷ 4544 ∷ 6784 ∷ 38144 ∷ []))
+    -- the window: shifted by 1, 63 and 64 places
+    ∷ (fields early is (3 ∷ 7 ∷ []))
+    ∷ (fields later is (66 ∷ 0x8000000000000001 ∷ []))
+    ∷ (fields (after early 67) is (67 ∷ 1 ∷ []))
+    -- 0 and numbers below it are refused under 35, then those in it and accepted under 22; others go on to the tag
+    ∷ ((answered later 0 ∷ answered later 2 ∷ answered later 3 ∷ answered later 4 ∷ answered later 66 ∷ answered later 67 ∷ [])
+    is (35 ∷ 35 ∷ 22 ∷ 9 ∷ 22 ∷ 9 ∷ []))
+    ∷ ((answered (record { highest = 0; accepted = 1 }) 0 ∷ []) is (35 ∷ []))
+    -- the bytes of a receiver: its window's word at the end
+    ∷ (receiverBytes (receiverWith later)
+    is (1 ∷ 0 ∷ 0 ∷ 0 ∷ 7 ∷ 0 ∷ 0 ∷ 0 ∷ 66 ∷ (replicate 16 0xaa ++ (replicate 16 0xbb ++ (0x80 ∷ 0 ∷ 0 ∷ 0 ∷ 0 ∷ 0 ∷ 0 ∷ 1 ∷ [])))))
     ∷ []
 
 -- each row's two sides are equal

@@ -1,11 +1,8 @@
--- `open_in` meets its contract: each refusal in its place, and the message. Assumes nothing.
-use Rattle.prelude.proofs.{refl, sym, ap, _∙_, not, [], _∷_, ℕ, _-_, arith, length, needs}
-use Rattle.blocks.specs.Bytes.{Bytes}
-use Rattle.answers.specs.Answer.{done}
-use Rattle.answers.proofs.First.{none-both, leaves-two, tests}
-use Rattle.baksheesh.specs.Baksheesh.{encrypt}
-use Rattle.opening.specs.Open.{openSays, openCauses, accepting}
-use Rattle.opening.proofs.Answers.{open-refused, open-done, sequence-fits}
+-- `open_in` meets its contract: each refusal of a record's form in its place, and then what verifying it gives. Assumes nothing.
+use Rattle.prelude.proofs.{refl, ap, not, _-_, arith, needs}
+use Rattle.answers.proofs.First.{leaves-two, tests}
+use Rattle.opening.specs.Open.{openSays}
+use Rattle.opening.proofs.Answers.{open-refused, open-verified}
 use Rattle.opening.proofs.open_in as fn
 
 returns : fn.Tie.Need-returns
@@ -34,39 +31,10 @@ returns-5 c =
 
 returns-6 : fn.Tie.Need-returns-6
 returns-6 c =
-    leaves-two (open-refused _ _ _ _ _ 5 (search needs, omega (arith, tests)) (omega (arith, tests)))
-    (ap openSays (c .refused6 .ensures .0)) _ _ (c .refused6 .ensures .1) _ _ refl
-
-returns-7 : fn.Tie.Need-returns-7
-returns-7 c =
-    let right = c .before .before .has-tag .ensures in
-    leaves-two (open-refused _ _ _ _ _ 6 (search needs, omega (arith, tests)) (sym (ap not right) ∙ c .before .if7 .taken))
-    (ap openSays (c .refused7 .ensures .0)) _ _ (c .refused7 .ensures .1) _ _ refl
-
-cast-next : fn.Tie.Need-cast-next
-cast-next c =
-    let number = c .before .before .before .before .before .before .before .before in
-    let known = number .before .before .before .before .before .before .before .before .before .before .before in
-    let a = known .before .args in
-    let bytes : Bytes (a .sealed .now) = λ j. known .shared-slice-known .given j .fits in
-    record { fits = sequence-fits (a .form) (a .sealed .now) bytes (omega arith) (search needs) (number .number-at .ensures) }
-
-returns-8 : fn.Tie.Need-returns-8
-returns-8 c =
-    let text = c .before .before in
-    let right = text .before .before .before in
-    let number = right .before .before .before in
-    let added = number .before .before .before .before .before .before .before in
-    let a = number .before .before .before .before .before .before .before .before .before .before .before .before .args in
-    let causes = openCauses (a .form) encrypt (a .link) (a .sealed .now) (length (a .out .now)) in
-    let tag = sym (ap not (right .has-tag .ensures)) ∙ text .before .before .if7 .left in
-    leaves-two (open-done _ _ _ _ _ (none-both 6 causes (added .before .if1 .left, omega (arith, tests, right .before)) (tag, tt)))
-    (ap (λ (n : ℕ). done ((length (a .sealed .now) - n) ∷ [])) (added .added .ensures))
-    _ _ (ap (accepting (a .link)) (number .number-at .ensures))
-    _ _ (text .put-message .ensures)
+    let e = c .before .before .verify .ensures in
+    leaves-two (open-verified _ _ _ _ _ (search needs, omega (arith, tests))) (e .0) _ _ (e .1 .0) _ _ (e .1 .1)
 
 pub open-in-spec : {M : Type 1} → fn.Statement.statement M
 open-in-spec = fn.Tie.close (fn.Tie.spec (λ c κs. search needs) returns (λ c κs. search needs) (λ c κs. search needs) returns-2
     (λ c κs. search needs) returns-3 (λ c κs. omega arith) (λ c κs. search needs) returns-4 (λ c κs. search needs) returns-5
-    (λ c κs. omega arith) (λ c. search needs) (λ c κs. search needs) returns-6 (λ c κs. search needs) (λ c κs. search needs) returns-7
-    (λ c κs. search needs) cast-next (λ c. search needs) returns-8)
+    (λ c κs. omega arith) (λ c κs. search needs) (λ c. search needs) returns-6)

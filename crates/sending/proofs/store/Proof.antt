@@ -4,11 +4,11 @@ use Rattle.sending.proofs.store as fn
 
 put-link-requires : fn.Tie.Need-put-link-requires
 put-link-requires c κs =
-    let x = c .before .before .before .before .before .before .before .args .x in
+    let x = c .before .before .before .before .before .before .before .before .args .x in
     let e : length (x .ke) ≡ 48 = search needs in
     let m : length (x .km) ≡ 48 = search needs in
     omega arith
 
 pub store-spec : {M : Type 1} → fn.Statement.statement M
-store-spec = fn.Tie.close (fn.Tie.spec (λ c. search needs) (λ c. search needs) (λ c. search needs) put-link-requires (λ c. search needs)
-    (λ c. search needs))
+store-spec = fn.Tie.close (fn.Tie.spec (λ c. search needs) (λ c. search needs) (λ c. search needs) (λ c. search needs)
+    put-link-requires (λ c. search needs) (λ c. search needs))

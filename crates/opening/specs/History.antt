@@ -1,0 +1,26 @@
+-- Openings in turn on one link, as the window's history takes them: of any form, under any cipher C. Assumes nothing.
+use mathlib.Core.List.{List}
+use Prim.Native.Nat.{ℕ}
+use Rattle.blocks.specs.Bytes.{Bytes}
+use Rattle.answers.specs.Answer.{Answer}
+use Rattle.links.specs.Record.{sequenceIn}
+use Rattle.links.specs.declared.Form.{Form}
+use Rattle.opening.specs.declared.Receiver.{Receiver}
+use Rattle.opening.specs.Open.{openAnswer, openLink}
+
+-- what an opening is asked for: a record, and room for so many bytes
+pub record Request : Type 0 where
+  pub sealed : List ℕ
+  pub bytes : Bytes sealed
+  pub room : ℕ
+
+-- the number that its record carries
+abbrev pub numberOffered : Form → Request → ℕ
+numberOffered f q = sequenceIn f (q .sealed)
+
+module _ (f : Form) (C : List ℕ → List ℕ → List ℕ) (x : Receiver) (q : Request) where
+  abbrev pub answerTo : Answer
+  answerTo = openAnswer f C x (q .sealed) (q .room)
+
+  abbrev pub linkLeft : Receiver
+  linkLeft = openLink f C x (q .sealed) (q .room)

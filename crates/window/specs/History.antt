@@ -1,0 +1,51 @@
+-- What a window tells of the numbers accepted: on any links, over any list of openings. Assumes nothing.
+use mathlib.Core.Path.{_≡_}
+use mathlib.Core.Bool.{Bool, false, cond, _||_}
+use mathlib.Core.List.{List, [], _∷_}
+use Prim.Native.Nat.{ℕ, _-_, _<_, max}
+use lib.Dec.{eqb}
+use Rattle.bits.specs.Bit.{bit}
+use Rattle.answers.specs.Answer.{Answer, numberOf}
+use Rattle.window.specs.Window.{span}
+use Rattle.window.specs.declared.Window.{Window}
+
+-- ---- openings in turn, each on the link that the one before left; lists of them have the newest first
+
+-- an opening q on a link x leaves the link `next x q`
+module _ {X Q : Type 0} (next : X → Q → X) (x : X) where
+  -- the link that they leave
+  abbrev pub linkAfter : List Q → X
+  linkAfter [] = x
+  linkAfter (q ∷ qs) = next (linkAfter qs) q
+
+  -- the numbers of the records that were accepted: those for which 0 was answered
+  module _ (answer : X → Q → Answer) (number : Q → ℕ) where
+    abbrev pub acceptedBy : List Q → List ℕ
+    acceptedBy [] = []
+    acceptedBy (q ∷ qs) = cond (eqb (numberOf (answer (linkAfter qs) q)) 0) (number q ∷ acceptedBy qs) (acceptedBy qs)
+
+-- ---- numbers
+
+abbrev pub among : ℕ → List ℕ → Bool
+among s [] = false
+among s (t ∷ ts) = eqb s t || among s ts
+
+-- none stands twice
+abbrev pub Distinct : List ℕ → Type 0
+Distinct [] = Unit {0}
+Distinct (s ∷ ss) = (among s ss ≡ false) × Distinct ss
+
+-- the highest; 0 if there is none
+abbrev pub highestOf : List ℕ → ℕ
+highestOf [] = 0
+highestOf (s ∷ ss) = max s (highestOf ss)
+
+-- ---- the window w tells of the accepted numbers ss
+
+pub record Tells (w : Window) (ss : List ℕ) : Type 0 where
+  -- none was accepted twice, and 0 never
+  pub distinct : Distinct ss
+  pub from-one : among 0 ss ≡ false
+  pub highest : w .highest ≡ highestOf ss
+  -- bit k is set exactly where the number k below the highest was accepted; past the number 1 the difference is 0
+  pub word : (k : ℕ) → k < span → bit (w .accepted) k ≡ among (w .highest - k) ss
