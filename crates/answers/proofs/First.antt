@@ -80,11 +80,6 @@ none-both (suc k) ((n when b) ∷ cs) h l = (h .0, none-both k cs (h .1) l)
 
 -- ---- causes behind others
 
-pub first-behind : (k : ℕ) (cs : List Cause) (a : Answer) → NoneOf (take k cs) → first cs a ≡ first (drop k cs) a
-first-behind zero cs a h = refl
-first-behind (suc k) [] a h = refl
-first-behind (suc k) ((n when b) ∷ cs) a h = ap (λ (t : Bool). cond t (refused n) (first cs a)) (h .0) ∙ first-behind k cs a (h .1)
-
 pub refused-before : (n : ℕ) (cs ds : List Cause) (vs : List ℕ) (a : Answer) → first cs (done vs) ≡ refused n
     → first (cs ++ ds) a ≡ refused n
 refused-before n [] ds vs a e = absurd (done-refused n vs e)
@@ -147,6 +142,12 @@ pub leaves-three {ℓ ℓ′ ℓ″} : {A : Type ℓ} {B : Type ℓ′} {C : Typ
     → (x y : A) {t : A} → t ≡ ifDone b x y → (z w : B) {u : B} → u ≡ ifDone b z w → (j k : C) {v : C} → v ≡ ifDone b j k
     → (s ≡ a) × ((t ≡ ifDone a x y) × ((u ≡ ifDone a z w) × (v ≡ ifDone a j k)))
 leaves-three e d x y p z w q j k r = (d ∙ sym e, (leaves-one e d x y p .1, leaves-two e d z w q j k r .1))
+
+-- ---- of two things, one where a test holds and one where it does not
+
+pub either : {A : Type 0} (P : A → Type 0) (t : Bool) {x y : A} → (t ≡ true → P x) → (t ≡ false → P y) → P (cond t x y)
+either P true f g = f refl
+either P false f g = g refl
 
 -- ---- a test's value, from the fact that it tests
 

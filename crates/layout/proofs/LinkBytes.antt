@@ -1,6 +1,6 @@
 -- The bytes of a link say that link; bytes of its size whose flag is 0 or 1 are those of the link that they say. For any sizes of keys and
 -- tail. Assumes nothing.
-use Rattle.prelude.proofs.{_≡_, refl, sym, ap, _∙_, Bool, true, false, cond, List, [], _∷_, _++_, append-assoc, ℕ, zero, suc, _+_, _^_, _≤_}
+use Rattle.prelude.proofs.{_≡_, refl, sym, ap, _∙_, Bool, true, false, List, [], _∷_, _++_, append-assoc, ℕ, zero, suc, _+_, _^_, _≤_}
 use Rattle.prelude.proofs.{_<_, arith, eqb, length, getD, take, drop, length-append, take-append-drop, take-at, drop-at, drop-drop}
 use Rattle.blocks.specs.Bytes.{Bytes, bigEndian, put}
 use Rattle.blocks.proofs.{Numbers.bigEndian-length, Numbers.bigEndian-says, Numbers.bigEndian-part, Parts.put-put, Parts.put-whole}
@@ -84,8 +84,3 @@ bytes-said p q (y ∷ b) h f k x l e m t s =
     (λ i. linkBytes (s .keyed i) (s .number i) (s .last i) (s .ke i) (s .km i) (s .tail i))
     ∙ (λ i. first-byte y f i ∷ (number i ++ (last i ++ keys i)))
     ∙ rw (← drop-drop lastSize numberSize b, take-append-drop lastSize (drop numberSize b), take-append-drop numberSize b)
-
--- of two things, one where a test holds and one where it does not
-pub either : {A : Type 0} (P : A → Type 0) (t : Bool) {x y : A} → (t ≡ true → P x) → P y → P (cond t x y)
-either P true f g = f refl
-either P false f g = g

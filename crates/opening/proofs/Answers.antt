@@ -2,14 +2,15 @@
 use Rattle.prelude.proofs.{_≡_, sym, ap, ap₂, _∙_, Bool, List, [], _∷_, ℕ, _-_, _≤_, arith, length, take, drop, length-drop, take-all}
 use Rattle.blocks.specs.Bytes.{sameBytes, part}
 use Rattle.answers.specs.Answer.{done, refused, NoneOf}
-use Rattle.answers.proofs.First.{Applies, numberAt, refused-at, done-none, first-behind}
+use Rattle.answers.proofs.First.{Applies, numberAt, refused-at, done-none, done-before}
 use Rattle.links.specs.Record.{headSize, added, sequenceIn, textIn, tagIn}
 use Rattle.links.specs.declared.Form.{Form}
 use Rattle.plain.specs.Plain.{crypted, macOf, tagOf}
 use Rattle.window.specs.Window.{after}
 use Rattle.window.specs.declared.Window.{Window}
 use Rattle.opening.specs.declared.Receiver.{Receiver}
-use Rattle.opening.specs.Open.{openAnswer, openCauses, verifyAnswer, verifyCauses, accepting, messageIn, messageSize, rightTag}
+use Rattle.opening.specs.Open.{openAnswer, openCauses, verifyAnswer, verifyCauses, withWindow, accepting, messageIn, messageSize}
+use Rattle.opening.specs.Open.{rightTag}
 
 module _ (f : Form) (C : List ℕ → List ℕ → List ℕ) (x : Receiver) (r : List ℕ) where
   module _ (o : ℕ) where
@@ -21,7 +22,8 @@ module _ (f : Form) (C : List ℕ → List ℕ → List ℕ) (x : Receiver) (r :
     -- its form is right, so that its number and its tag decide
     pub open-verified : NoneOf (take 5 (openCauses f C x r o)) → openAnswer f C x r o ≡ verifyAnswer f C x r
     unfolding openAnswer verifyAnswer
-    open-verified = first-behind 5 (openCauses f C x r o) _
+    open-verified h =
+        let cs = take 5 (openCauses f C x r o) in done-before cs (verifyCauses f C x r) [] [] _ (done-none cs (done []) h) .1
 
   -- the cause at place k is the first to refuse its number or its tag
   pub verify-refused : (k : ℕ) → NoneOf (take k (verifyCauses f C x r)) → Applies k (verifyCauses f C x r)
@@ -57,8 +59,5 @@ module _ {s m : ℕ} (es : s ≡ m) where
   tested w test eb ev = sym (eb ∙ ap (test w) es) ∙ ev
 
   -- a link's window was moved to w
-  pub window-moved : (x : Receiver) {w : Window} → w ≡ after (x .window) s
-      → record { keyed = x .keyed; number = x .number; window = w; ke = x .ke; km = x .km } ≡ accepting x m
-  window-moved x ew =
-      ap {B = Receiver} (λ (w : Window). record { keyed = x .keyed; number = x .number; window = w; ke = x .ke; km = x .km })
-      (ew ∙ ap (after (x .window)) es)
+  pub window-moved : (x : Receiver) {w : Window} → w ≡ after (x .window) s → withWindow x w ≡ accepting x m
+  window-moved x ew = ap (withWindow x) (ew ∙ ap (after (x .window)) es)

@@ -4,10 +4,9 @@ use Rattle.prelude.proofs.{_≡_, refl, sym, ap, List, ℕ}
 use Rattle.answers.specs.Answer.{Cause, Accepts}
 use Rattle.answers.proofs.First.{accepts-none, accepts-done, not-accepts, if-done, if-refused}
 use Rattle.links.specs.declared.Form.{Form}
-use Rattle.window.specs.History.{linkAfter, acceptedBy, Tells}
+use Rattle.window.specs.History.{linkAfter, acceptedBy, Tells, Moves}
 use Rattle.window.proofs.Admits.{passes-admitted}
 use Rattle.window.proofs.History as History
-use Rattle.window.proofs.History.{Moves}
 use Rattle.opening.specs.{declared.Receiver.Receiver, Receivers.receiverOf}
 use Rattle.opening.specs.Open.{openAnswer, openCauses, accepting}
 use Rattle.opening.specs.History.{Request, numberOffered, answerTo, linkLeft}

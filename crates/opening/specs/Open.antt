@@ -11,6 +11,7 @@ use Rattle.links.specs.Record.{longest, added, recordSize, linkIn, sequenceIn, 
 use Rattle.links.specs.declared.Form.{Form}
 use Rattle.plain.specs.Plain.{crypted, tagOf}
 use Rattle.window.specs.Window.{below, repeated, after}
+use Rattle.window.specs.declared.Window.{Window}
 use Rattle.opening.specs.declared.Receiver.{Receiver}
 use Rattle.opening.specs.declared.OpenAnswer.{OpenAnswer}
 use Rattle.opening.specs.declared.OpenAnswer.the-variants.{Opened, NotKeyed, BadLength, OtherLink, ShortOutput, BelowWindow}
@@ -35,9 +36,12 @@ pub record RecordSized (f : Form) (r : List ℕ) : Type 0 where
 abbrev pub messageSize : Form → List ℕ → ℕ
 messageSize f r = length r - added f
 
--- the link with the sequence number s accepted
+-- the link with another window, and with the sequence number s accepted
+abbrev pub withWindow : Receiver → Window → Receiver
+withWindow x w = record { keyed = x .keyed; number = x .number; window = w; ke = x .ke; km = x .km }
+
 abbrev pub accepting : Receiver → ℕ → Receiver
-accepting x s = record { keyed = x .keyed; number = x .number; window = after (x .window) s; ke = x .ke; km = x .km }
+accepting x s = withWindow x (after (x .window) s)
 
 module _ (f : Form) (C : List ℕ → List ℕ → List ℕ) (x : Receiver) (r : List ℕ) where
   -- the tag that the record should have, and the message that it holds

@@ -8,18 +8,17 @@ use Rattle.answers.proofs.First.{accepts-none, accepts-done, if-done}
 use Rattle.baksheesh.specs.Baksheesh.{encrypt}
 use Rattle.links.specs.Record.{standard, numberSize, recordSize}
 use Rattle.layout.specs.{Layout.lastSize, Keying.keyingAnswer, Keying.keyingCauses}
-use Rattle.window.specs.History.{linkAfter, acceptedBy, Tells}
+use Rattle.window.specs.History.{linkAfter, acceptedBy, Tells, Moves}
 use Rattle.window.proofs.Admits.{after-highest, after-word}
 use Rattle.window.proofs.History as History
-use Rattle.window.proofs.History.{Moves}
 use Rattle.opening.specs.{declared.Receiver.Receiver, Receivers.receiverKeys, Receivers.receiverOf, History.Request, History.numberOffered}
 use Rattle.opening.specs.Open.{openAnswer, openCauses, accepting}
 use Rattle.opening.proofs.Exactly.{keyed-formed}
 use Rattle.opening.proofs.History as Opening
-use Rattle.receiving.specs.Stored.{receiverSize, receiverIn, receiverBytes}
+use Rattle.receiving.specs.Stored.{receiverSize, receiverIn, receiverBytes, Storable}
 use Rattle.receiving.specs.Calls.{receiverKeying, keyedReceiver}
 use Rattle.receiving.specs.History.{answerOn, bytesLeft}
-use Rattle.receiving.proofs.Stored.{Storable, receiver-said, receiver-storable}
+use Rattle.receiving.proofs.Stored.{receiver-said, receiver-storable}
 
 -- the link that bytes say can be stored
 abbrev Good : List ℕ → Type 0

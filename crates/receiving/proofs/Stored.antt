@@ -5,11 +5,12 @@ use Rattle.prelude.proofs.{length-drop, length-replicate, take-all, eqb-true, e
 use Rattle.blocks.specs.Bytes.{Bytes, Block, bigEndian, value, part}
 use Rattle.blocks.proofs.{Xor.bytes-replicate, Parts.part-length, Parts.part-bytes}
 use Rattle.blocks.proofs.Numbers.{part-lt, bigEndian-length, bigEndian-says, bigEndian-part}
+use Rattle.answers.proofs.First.{either}
 use Rattle.links.specs.Record.{numberSize}
 use Rattle.layout.specs.Layout.{lastSize, numberAt, lastAt, keysAt, tailIn}
-use Rattle.layout.proofs.LinkBytes.{bytes-say, bytes-said, either}
-use Rattle.opening.specs.{Receivers.receiverKeys, Receivers.freshReceiver, Exactly.Formed, declared.Receiver.Receiver}
-use Rattle.receiving.specs.Stored.{wordSize, receiverSize, receiverAt, receiverIn, receiverBytes}
+use Rattle.layout.proofs.LinkBytes.{bytes-say, bytes-said}
+use Rattle.opening.specs.{Receivers.receiverKeys, Receivers.freshReceiver, declared.Receiver.Receiver}
+use Rattle.receiving.specs.Stored.{wordSize, receiverSize, receiverAt, receiverIn, receiverBytes, Storable}
 
 -- ---- read
 
@@ -24,12 +25,6 @@ pub word-tail : (b : List ℕ) → length b ≡ receiverSize → part (keysAt + 
 word-tail b h = take-all wordSize (drop (keysAt + receiverKeys) b) (simp length-drop (omega arith))
 
 -- ---- stored and read
-
--- a link that bytes can say
-pub record Storable (x : Receiver) : Type 0 where
-  pub formed : Formed x
-  pub highest : x .window .highest < 256 ^ lastSize
-  pub word : x .window .accepted < 256 ^ wordSize
 
 pub receiver-said : (x : Receiver) → Storable x → receiverIn (receiverBytes x) ≡ x
 receiver-said x S =
@@ -71,7 +66,7 @@ receiver-bytes b h s f =
 -- ---- what bytes say can be stored
 
 pub receiver-storable : (b : List ℕ) → Bytes b → Storable (receiverIn b)
-receiver-storable b h = either Storable (eqb (length b) receiverSize) (λ e. said (eqb-true (length b) receiverSize e)) fresh
+receiver-storable b h = either Storable (eqb (length b) receiverSize) (λ e. said (eqb-true (length b) receiverSize e)) (λ _. fresh)
   where
     said : length b ≡ receiverSize → Storable (receiverAt b)
     said l = record {

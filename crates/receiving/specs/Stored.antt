@@ -1,12 +1,13 @@
 -- Receiving links as a host stores them. Assumes nothing.
 use mathlib.Core.Bool.{cond}
 use mathlib.Core.List.{List}
-use Prim.Native.Nat.{ℕ}
+use Prim.Native.Nat.{ℕ, _^_, _<_}
 use lib.Dec.{eqb}
 use lib.ListN.{length}
 use Rattle.blocks.specs.Bytes.{bigEndian, value}
-use Rattle.layout.specs.Layout.{linkSize, linkBytes, keyedIn, numberIn, lastIn, keysIn, tailIn}
+use Rattle.layout.specs.Layout.{lastSize, linkSize, linkBytes, keyedIn, numberIn, lastIn, keysIn, tailIn}
 use Rattle.opening.specs.Receivers.{receiverKeys, freshReceiver}
+use Rattle.opening.specs.Exactly.{Formed}
 use Rattle.opening.specs.declared.Receiver.{Receiver}
 
 -- the bytes of the window's word, the link's tail
@@ -33,3 +34,9 @@ receiverIn b = cond (eqb (length b) receiverSize) (receiverAt b) freshReceiver
 abbrev pub receiverBytes : Receiver → List ℕ
 receiverBytes x =
     linkBytes (x .keyed) (x .number) (x .window .highest) (x .ke) (x .km) (bigEndian wordSize (x .window .accepted))
+
+-- a link that bytes can say
+pub record Storable (x : Receiver) : Type 0 where
+  pub formed : Formed x
+  pub highest : x .window .highest < 256 ^ lastSize
+  pub word : x .window .accepted < 256 ^ wordSize

@@ -4,9 +4,10 @@ use Rattle.prelude.proofs.{_≡_, refl, sym, ap, _∙_, List, [], ℕ, _+_, _^_
 use Rattle.prelude.proofs.{getD, length-replicate, drop-length, eqb-true, eq-eqb, ne-eqb}
 use Rattle.blocks.specs.Bytes.{Bytes}
 use Rattle.blocks.proofs.{Xor.bytes-replicate, Parts.part-length, Parts.part-bytes, Numbers.part-lt}
+use Rattle.answers.proofs.First.{either}
 use Rattle.links.specs.{Record.numberSize, Links.freshSender, declared.Sender.Sender}
 use Rattle.layout.specs.Layout.{lastSize, numberAt, lastAt, keysAt}
-use Rattle.layout.proofs.LinkBytes.{bytes-say, bytes-said, either}
+use Rattle.layout.proofs.LinkBytes.{bytes-say, bytes-said}
 use Rattle.calls.specs.Demand.{Formed}
 use Rattle.sending.specs.Stored.{senderSize, senderAt, senderIn, senderBytes}
 
@@ -46,7 +47,7 @@ sender-bytes b h s f =
 -- ---- what bytes say is formed
 
 pub sender-formed : (b : List ℕ) → Bytes b → Formed (senderIn b)
-sender-formed b h = either Formed (eqb (length b) senderSize) (λ e. said (eqb-true (length b) senderSize e)) fresh
+sender-formed b h = either Formed (eqb (length b) senderSize) (λ e. said (eqb-true (length b) senderSize e)) (λ _. fresh)
   where
     said : length b ≡ senderSize → Formed (senderAt b)
     said l = record {

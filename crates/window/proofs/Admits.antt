@@ -1,11 +1,12 @@
 -- A window admits the numbers that no cause refuses, none that it did not admit before it moved, and an accepted one never again.
 -- Assumes nothing.
-use Rattle.prelude.proofs.{_≡_, refl, sym, ap, ap₂, _∙_, subst, inl, inr, Bool, true, false, cond, _&&_, _||_, ℕ, _+_, _-_, _^_, _≤_, _<_}
-use Rattle.prelude.proofs.{decLe, decLt, lt-of-lt-of-le, pow-mono, arith, eqb, leb, ltb, bitOr, or-lt, eqb-false, leb-false, eq-eqb}
-use Rattle.prelude.proofs.{ne-eqb, le-leb, lt-leb, lt-ltb, le-ltb}
+use Rattle.prelude.proofs.{_≡_, refl, sym, ap, ap₂, _∙_, inl, inr, Bool, true, false, cond, _&&_, _||_, ℕ, _+_, _-_, _^_, _≤_, _<_}
+use Rattle.prelude.proofs.{decLe, decLt, lt-of-lt-of-le, pow-mono, arith, eqb, leb, ltb, or-lt, eqb-false, leb-false, eq-eqb}
+use Rattle.prelude.proofs.{ne-eqb, le-leb, lt-leb, lt-ltb, le-ltb, ltb-true, ltb-false}
 use Rattle.bits.specs.Bit.{bit}
 use Rattle.bits.proofs.{Laws.bit-high, Test.neither}
-use Rattle.window.specs.Window.{span, known, New, Admitted, below, repeated, shifted, after}
+use Rattle.answers.proofs.First.{either}
+use Rattle.window.specs.Window.{span, known, New, Admitted, below, repeated, shifted, movedUp, marked, after}
 use Rattle.window.specs.declared.Window.{Window}
 use Rattle.window.proofs.Word.{shifted-lt, bit-shifted, clear-set, clear-first-set}
 
@@ -65,30 +66,20 @@ module _ (w : Window) (s : ℕ) where
 
 -- ---- moved
 
--- the window moved up to a number on its right, and with the bit of a number in it set
-abbrev pub moved-right : Window → ℕ → Window
-moved-right w t = record { highest = t; accepted = bitOr (shifted (w .accepted) (t - w .highest)) 1 }
-
-abbrev pub marked : Window → ℕ → Window
-marked w t = record { highest = w .highest; accepted = bitOr (w .accepted) (shifted 1 (w .highest - t)) }
-
 module _ (w : Window) (t : ℕ) where
-  pub after-right : w .highest < t → moved-right w t ≡ after w t
-  after-right l = ap (λ (b : Bool). cond b (moved-right w t) (marked w t)) (sym (lt-ltb (w .highest) t l))
+  pub after-right : w .highest < t → movedUp w t ≡ after w t
+  after-right l = ap (λ (b : Bool). cond b (movedUp w t) (marked w t)) (sym (lt-ltb (w .highest) t l))
 
   pub after-inside : t ≤ w .highest → marked w t ≡ after w t
-  after-inside l = ap (λ (b : Bool). cond b (moved-right w t) (marked w t)) (sym (le-ltb (w .highest) t l))
+  after-inside l = ap (λ (b : Bool). cond b (movedUp w t) (marked w t)) (sym (le-ltb (w .highest) t l))
 
   -- what holds of both holds of the window with t accepted
-  pub either-way : (P : Window → Type 0) → (w .highest < t → P (moved-right w t)) → (t ≤ w .highest → P (marked w t)) → P (after w t)
-  either-way P r i = elim (decLt (w .highest) t) [
-    | yes l ↦ subst P (after-right l) (r l)
-    | no l ↦ let h : t ≤ w .highest = omega arith in subst P (after-inside h) (i h)
-  ]
+  pub either-way : (P : Window → Type 0) → (w .highest < t → P (movedUp w t)) → (t ≤ w .highest → P (marked w t)) → P (after w t)
+  either-way P r i = either P (ltb (w .highest) t) (λ e. r (ltb-true (w .highest) t e)) (λ e. i (ltb-false (w .highest) t e))
 
   -- what it admits then, it admitted before
   module _ (s : ℕ) where
-    right-less : w .highest < t → New (moved-right w t) s → New w s
+    right-less : w .highest < t → New (movedUp w t) s → New w s
     right-less l (inl r) = inl (omega arith)
     right-less l (inr r) = elim (decLt (w .highest) s) [
       | yes h ↦ inl h
@@ -114,7 +105,7 @@ module _ (w : Window) (t : ℕ) where
         either-way (λ (v : Window). Admitted v s → Admitted w s) (λ l a. (a .0, right-less l (a .1))) (λ l a. (a .0, inside-less (a .1)))
 
   -- the accepted number itself is not admitted
-  right-again : New (moved-right w t) t → ⊥
+  right-again : New (movedUp w t) t → ⊥
   right-again (inl r) = omega arith
   right-again (inr r) =
       eqb-false (t - t) 0 (clear-first-set (shifted (w .accepted) (t - w .highest)) (t - t) (omega arith) (r .1) .1) (omega arith)

@@ -1,14 +1,15 @@
 -- A window tells of the numbers accepted, and no number is accepted again: on any links that move it as the rule says. Assumes nothing.
-use Rattle.prelude.proofs.{_≡_, refl, sym, ap, ap₂, _∙_, subst, inl, inr, Bool, false, cond, _||_, or-comm, List, [], _∷_, ℕ}
-use Rattle.prelude.proofs.{_+_, _-_, _≤_, _<_, decLt, arith, eqb, ℕ-discrete, eq-eqb, ne-eqb}
+use Rattle.prelude.proofs.{_≡_, refl, sym, ap, ap₂, _∙_, subst, inl, inr, false, cond, _||_, or-comm, List, [], _∷_, ℕ}
+use Rattle.prelude.proofs.{_+_, _-_, _≤_, _<_, decLt, arith, eqb, ℕ-discrete, ne-eqb, eqb-true, eqb-false}
 use Rattle.bits.specs.Bit.{bit}
 use Rattle.bits.proofs.{Laws.bit-zero, Test.same-test}
 use Rattle.answers.specs.Answer.{Answer, numberOf, Accepts}
-use Rattle.window.specs.Window.{span, empty, Inside, known, Admitted, shifted, after}
-use Rattle.window.specs.History.{linkAfter, acceptedBy, among, highestOf, Tells}
+use Rattle.answers.proofs.First.{either}
+use Rattle.window.specs.Window.{span, empty, Inside, known, Admitted, shifted, movedUp, marked, after}
+use Rattle.window.specs.History.{linkAfter, acceptedBy, among, highestOf, Tells, Moves}
 use Rattle.window.specs.declared.Window.{Window}
 use Rattle.window.proofs.Word.{bit-shifted, bit-vacated, bit-set, bit-first-set}
-use Rattle.window.proofs.Admits.{moved-right, marked, after-right, after-inside, admits-less, not-again}
+use Rattle.window.proofs.Admits.{after-right, after-inside, admits-less, not-again}
 
 -- ---- one more number accepted
 
@@ -23,7 +24,7 @@ module _ (w : Window) (ss : List ℕ) (s : ℕ) (T : Tells w ss) (one : 1 ≤ s)
   from-one : among 0 (s ∷ ss) ≡ false
   from-one = ap₂ _||_ (ne-eqb 0 s (λ e. omega arith)) (T .from-one)
 
-  tells-right : H < s → Tells (moved-right w s) (s ∷ ss)
+  tells-right : H < s → Tells (movedUp w s) (s ∷ ss)
   tells-right l = record {
     distinct = (above-highest s ss (let e = T .highest in omega arith), T .distinct);
     from-one = from-one;
@@ -69,25 +70,13 @@ tells-nothing = record { distinct = tt; from-one = refl; highest = refl; word = 
 -- ---- openings in turn
 
 module _ {X Q : Type 0} (next : X → Q → X) (answer : X → Q → Answer) (number : Q → ℕ) (window : X → Window) (Good : X → Type 0) where
-  -- what an opening does with the window of its link: it accepts admitted numbers alone, and moves the window for these alone
-  pub record Moves (x : X) (q : Q) : Type 0 where
-    pub good : Good (next x q)
-    pub admitted : Accepts (answer x q) → Admitted (window x) (number q)
-    pub moved : Accepts (answer x q) → window (next x q) ≡ after (window x) (number q)
-    pub kept : (Accepts (answer x q) → ⊥) → window (next x q) ≡ window x
-
-  module _ (x : X) (q : Q) (m : Moves x q) where
+  module _ (x : X) (q : Q) (m : Moves next answer number window Good x q) where
     tells-step : (ss : List ℕ) → Tells (window x) ss
         → Tells (window (next x q)) (cond (eqb (numberOf (answer x q)) 0) (number q ∷ ss) ss)
-    tells-step ss T = elim (ℕ-discrete (numberOf (answer x q)) 0) [
-      | yes a ↦
-          told (sym (eq-eqb (numberOf (answer x q)) 0 a)) (sym (m .moved a)) (tells-after (window x) ss (number q) T (m .admitted a))
-      | no a ↦ told (sym (ne-eqb (numberOf (answer x q)) 0 a)) (sym (m .kept a)) T
-    ]
-      where
-        told : {b c : Bool} {v w : Window} → b ≡ c → v ≡ w → Tells v (cond b (number q ∷ ss) ss) → Tells w (cond c (number q ∷ ss) ss)
-        told {b = b} {w = w} e d T =
-            subst (λ (c : Bool). Tells w (cond c (number q ∷ ss) ss)) e (subst (λ (u : Window). Tells u (cond b (number q ∷ ss) ss)) d T)
+    tells-step ss T = either (Tells (window (next x q))) (eqb (numberOf (answer x q)) 0)
+        (λ e. let a = eqb-true (numberOf (answer x q)) 0 e in
+        subst (λ (v : Window). Tells v (number q ∷ ss)) (sym (m .moved a)) (tells-after (window x) ss (number q) T (m .admitted a)))
+        (λ e. subst (λ (v : Window). Tells v ss) (sym (m .kept (eqb-false (numberOf (answer x q)) 0 e))) T)
 
     admitted-step : (s : ℕ) → Admitted (window (next x q)) s → Admitted (window x) s
     admitted-step s h = elim (ℕ-discrete (numberOf (answer x q)) 0) [
@@ -95,12 +84,12 @@ module _ {X Q : Type 0} (next : X → Q → X) (answer : X → Q → Answer) (nu
       | no a ↦ subst (λ (v : Window). Admitted v s) (m .kept a) h
     ]
 
-  module _ (moves : (x : X) (q : Q) → Good x → Moves x q) (x : X) (g : Good x) where
+  module _ (moves : (x : X) (q : Q) → Good x → Moves next answer number window Good x q) (x : X) (g : Good x) where
     good-after : (qs : List Q) → Good (linkAfter next x qs)
     good-after [] = g
     good-after (q ∷ qs) = moves (linkAfter next x qs) q (good-after qs) .good
 
-    moves-after : (qs : List Q) (q : Q) → Moves (linkAfter next x qs) q
+    moves-after : (qs : List Q) (q : Q) → Moves next answer number window Good (linkAfter next x qs) q
     moves-after qs q = moves (linkAfter next x qs) q (good-after qs)
 
     -- from a window without numbers on, it tells of those accepted
@@ -109,13 +98,13 @@ module _ {X Q : Type 0} (next : X → Q → X) (answer : X → Q → Answer) (nu
     window-tells e (q ∷ qs) = tells-step (linkAfter next x qs) q (moves-after qs q) (acceptedBy next x answer number qs) (window-tells e qs)
 
     -- what a link admits after some openings, it admitted before them
-    pub admitted-before : (qs : List Q) (s : ℕ) → Admitted (window (linkAfter next x qs)) s → Admitted (window x) s
+    admitted-before : (qs : List Q) (s : ℕ) → Admitted (window (linkAfter next x qs)) s → Admitted (window x) s
     admitted-before [] s h = h
     admitted-before (q ∷ qs) s h = admitted-before qs s (admitted-step (linkAfter next x qs) q (moves-after qs q) s h)
 
   -- a number that was accepted is not accepted again, whatever the window was and whatever is opened in between
-  pub never-again : ((x : X) (q : Q) → Good x → Moves x q) → (x : X) → Good x → (q : Q) → Accepts (answer x q) → (qs : List Q) (p : Q)
-      → number p ≡ number q → Accepts (answer (linkAfter next (next x q) qs) p) → ⊥
+  pub never-again : ((x : X) (q : Q) → Good x → Moves next answer number window Good x q) → (x : X) → Good x → (q : Q)
+      → Accepts (answer x q) → (qs : List Q) (p : Q) → number p ≡ number q → Accepts (answer (linkAfter next (next x q) qs) p) → ⊥
   never-again moves x g q d qs p e a =
       let m = moves x q g in
       let h = admitted-before moves (next x q) (m .good) qs (number p) (moves-after moves (next x q) (m .good) qs p .admitted a) in

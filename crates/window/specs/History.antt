@@ -5,8 +5,8 @@ use mathlib.Core.List.{List, [], _∷_}
 use Prim.Native.Nat.{ℕ, _-_, _<_, max}
 use lib.Dec.{eqb}
 use Rattle.bits.specs.Bit.{bit}
-use Rattle.answers.specs.Answer.{Answer, numberOf}
-use Rattle.window.specs.Window.{span}
+use Rattle.answers.specs.Answer.{Answer, numberOf, Accepts}
+use Rattle.window.specs.Window.{span, Admitted, after}
 use Rattle.window.specs.declared.Window.{Window}
 
 -- ---- openings in turn, each on the link that the one before left; lists of them have the newest first
@@ -49,3 +49,13 @@ pub record Tells (w : Window) (ss : List ℕ) : Type 0 where
   pub highest : w .highest ≡ highestOf ss
   -- bit k is set exactly where the number k below the highest was accepted; past the number 1 the difference is 0
   pub word : (k : ℕ) → k < span → bit (w .accepted) k ≡ among (w .highest - k) ss
+
+-- ---- what an opening does with the window of its link: it accepts admitted numbers alone, and moves the window for these alone
+
+module _ {X Q : Type 0} (next : X → Q → X) (answer : X → Q → Answer) (number : Q → ℕ) (window : X → Window) (Good : X → Type 0) where
+  -- on a link that is as it has to be, and leaves it so
+  pub record Moves (x : X) (q : Q) : Type 0 where
+    pub good : Good (next x q)
+    pub admitted : Accepts (answer x q) → Admitted (window x) (number q)
+    pub moved : Accepts (answer x q) → window (next x q) ≡ after (window x) (number q)
+    pub kept : (Accepts (answer x q) → ⊥) → window (next x q) ≡ window x

@@ -44,8 +44,13 @@ module _ (w : Window) (s : ℕ) where
 unfoldable pub shifted : ℕ → ℕ → ℕ
 shifted word d = word * 2 ^ d % 2 ^ span
 
--- the window with s accepted: to its right, it moves up so that s is its right edge; in it, the number's bit is set
+-- the window moved up so that s is its right edge, and the window with the bit of s set
+abbrev pub movedUp : Window → ℕ → Window
+movedUp w s = record { highest = s; accepted = bitOr (shifted (w .accepted) (s - w .highest)) 1 }
+
+abbrev pub marked : Window → ℕ → Window
+marked w s = record { highest = w .highest; accepted = bitOr (w .accepted) (shifted 1 (w .highest - s)) }
+
+-- the window with s accepted, which is to its right or in it
 abbrev pub after : Window → ℕ → Window
-after w s =
-    cond (ltb (w .highest) s) (record { highest = s; accepted = bitOr (shifted (w .accepted) (s - w .highest)) 1 })
-    (record { highest = w .highest; accepted = bitOr (w .accepted) (shifted 1 (w .highest - s)) })
+after w s = cond (ltb (w .highest) s) (movedUp w s) (marked w s)
