@@ -1,10 +1,11 @@
--- Over every list of openings after one keying, the link's window tells of the numbers accepted, none of them twice; on any link, a number
--- that was accepted is refused from then on. Assumes nothing.
-use Rattle.prelude.proofs.{_≡_, refl, sym, ap, List, ℕ}
+-- Over every list of openings after one keying, the link's window tells of the numbers accepted, none of them twice, and admits exactly
+-- those that may be accepted next; on any link, a number that was accepted is refused from then on. Assumes nothing.
+use Rattle.prelude.proofs.{_≡_, refl, sym, ap, _↔_, List, ℕ}
 use Rattle.answers.specs.Answer.{Cause, Accepts}
 use Rattle.answers.proofs.First.{accepts-none, accepts-done, not-accepts, if-done, if-refused}
 use Rattle.links.specs.declared.Form.{Form}
-use Rattle.window.specs.History.{linkAfter, acceptedBy, Tells, Moves}
+use Rattle.window.specs.Window.{Admitted}
+use Rattle.window.specs.History.{linkAfter, acceptedBy, Eligible, Tells, Moves}
 use Rattle.window.proofs.Admits.{passes-admitted}
 use Rattle.window.proofs.History as History
 use Rattle.opening.specs.{declared.Receiver.Receiver, Receivers.receiverOf}
@@ -31,6 +32,11 @@ module _ (f : Form) (C : List ℕ → List ℕ → List ℕ) where
       → Tells (linkAfter (linkLeft f C) (receiverOf n keys) qs .window)
       (acceptedBy (linkLeft f C) (receiverOf n keys) (answerTo f C) (numberOffered f) qs)
   window-tells n keys = History.window-tells _ _ _ _ _ (λ x q _. moves x q) (receiverOf n keys) tt refl
+
+  pub admits-exactly : (n : ℕ) (keys : List ℕ) (qs : List Request) (s : ℕ)
+      → Admitted (linkAfter (linkLeft f C) (receiverOf n keys) qs .window) s
+      ↔ Eligible (acceptedBy (linkLeft f C) (receiverOf n keys) (answerTo f C) (numberOffered f) qs) s
+  admits-exactly n keys qs = History.admits-exactly _ _ (window-tells n keys qs)
 
   -- the link x and the window that it has are any
   pub refused-again : (x : Receiver) (q : Request) → Accepts (answerTo f C x q) → (qs : List Request) (p : Request)

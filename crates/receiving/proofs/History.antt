@@ -1,6 +1,6 @@
--- Over every list of openings on a stored link after one keying, its window tells of the numbers accepted, none of them twice; on any
--- bytes, a number that was accepted is refused from then on. Assumes nothing.
-use Rattle.prelude.proofs.{_≡_, refl, sym, ap, _∙_, subst, List, ℕ, _^_, _≤_, _<_, arith, eqb, length, ltb-false, eqb-true, not-false}
+-- Over every list of openings on a stored link after one keying, its window tells of the numbers accepted, none of them twice, and admits
+-- exactly those that may be accepted next; on any bytes, a number that was accepted is refused from then on. Assumes nothing.
+use Rattle.prelude.proofs.{_≡_, refl, sym, ap, _∙_, subst, _↔_, List, ℕ, _^_, _≤_, _<_, arith, eqb, length, ltb-false, eqb-true, not-false}
 use Rattle.blocks.specs.Bytes.{Bytes}
 use Rattle.blocks.proofs.Numbers.{part-lt}
 use Rattle.answers.specs.Answer.{Answer, done, refused, Accepts, ifDone}
@@ -8,7 +8,8 @@ use Rattle.answers.proofs.First.{accepts-none, accepts-done, if-done}
 use Rattle.baksheesh.specs.Baksheesh.{encrypt}
 use Rattle.links.specs.Record.{standard, numberSize, recordSize}
 use Rattle.layout.specs.{Layout.lastSize, Keying.keyingAnswer, Keying.keyingCauses}
-use Rattle.window.specs.History.{linkAfter, acceptedBy, Tells, Moves}
+use Rattle.window.specs.Window.{Admitted}
+use Rattle.window.specs.History.{linkAfter, acceptedBy, Eligible, Tells, Moves}
 use Rattle.window.proofs.Admits.{after-highest, after-word}
 use Rattle.window.proofs.History as History
 use Rattle.opening.specs.{declared.Receiver.Receiver, Receivers.receiverKeys, Receivers.receiverOf, History.Request, History.numberOffered}
@@ -74,6 +75,11 @@ stored-window-tells link n keys h b a qs =
     ap receiverIn (sym (if-done (accepts-done (keyingCauses receiverSize receiverKeys link keys) _ tt a) _ link))
     ∙ receiver-said (receiverOf n keys) S in
     History.window-tells _ _ _ _ _ (λ l q g. moves l g q) l (subst Storable (sym e) S) (ap (λ (y : Receiver). y .window) e) qs
+
+pub stored-admits-exactly : (link : List ℕ) (n : ℕ) (keys : List ℕ) → n < 256 ^ numberSize → Bytes keys
+    → Accepts (receiverKeying link keys) → (qs : List Request) (s : ℕ) → let l = keyedReceiver link n keys in
+    Admitted (receiverIn (linkAfter bytesLeft l qs) .window) s ↔ Eligible (acceptedBy bytesLeft l answerOn (numberOffered standard) qs) s
+stored-admits-exactly link n keys h b a qs = History.admits-exactly _ _ (stored-window-tells link n keys h b a qs)
 
 -- whatever the bytes of the link are
 pub stored-refused-again : (link : List ℕ) → Bytes link → (q : Request) → Accepts (answerOn link q) → (qs : List Request) (p : Request)

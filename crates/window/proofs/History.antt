@@ -1,21 +1,44 @@
--- A window tells of the numbers accepted, and no number is accepted again: on any links that move it as the rule says. Assumes nothing.
-use Rattle.prelude.proofs.{_≡_, refl, sym, ap, ap₂, _∙_, subst, inl, inr, false, cond, _||_, or-comm, List, [], _∷_, ℕ}
+-- A window tells of the numbers accepted and admits exactly those that may be accepted next, and no number is accepted again: on any links
+-- that move it as the rule says. Assumes nothing.
+use Rattle.prelude.proofs.{_≡_, refl, sym, ap, ap₂, _∙_, subst, _↔_, inl, inr, false, cond, _||_, or-comm, List, [], _∷_, ℕ}
 use Rattle.prelude.proofs.{_+_, _-_, _≤_, _<_, decLt, arith, eqb, ℕ-discrete, ne-eqb, eqb-true, eqb-false}
 use Rattle.bits.specs.Bit.{bit}
 use Rattle.bits.proofs.{Laws.bit-zero, Test.same-test}
 use Rattle.answers.specs.Answer.{Answer, numberOf, Accepts}
 use Rattle.answers.proofs.First.{either}
 use Rattle.window.specs.Window.{span, empty, Inside, known, Admitted, shifted, movedUp, marked, after}
-use Rattle.window.specs.History.{linkAfter, acceptedBy, among, highestOf, Tells, Moves}
+use Rattle.window.specs.History.{linkAfter, acceptedBy, among, highestOf, Eligible, Tells, Moves}
 use Rattle.window.specs.declared.Window.{Window}
 use Rattle.window.proofs.Word.{bit-shifted, bit-vacated, bit-set, bit-first-set}
 use Rattle.window.proofs.Admits.{after-right, after-inside, admits-less, not-again}
 
--- ---- one more number accepted
+-- ---- what a window that tells of the numbers accepted admits
 
 above-highest : (s : ℕ) (ss : List ℕ) → highestOf ss < s → among s ss ≡ false
 above-highest s [] h = refl
 above-highest s (t ∷ ts) h = ap₂ _||_ (ne-eqb s t (λ e. omega arith)) (above-highest s ts (omega arith))
+
+module _ (w : Window) (ss : List ℕ) (T : Tells w ss) (s : ℕ) where
+  known-among : Inside w s → known w s ≡ among s ss
+  known-among i =
+      let e : w .highest - (w .highest - s) ≡ s = omega arith in
+      T .word (w .highest - s) (omega arith) ∙ ap (λ (t : ℕ). among t ss) e
+
+  -- exactly the numbers that may be accepted next
+  pub admits-exactly : Admitted w s ↔ Eligible ss s
+  admits-exactly = (eligible, admitted)
+    where
+      eligible : Admitted w s → Eligible ss s
+      eligible (one, inl l) = let e = T .highest in (one, omega arith, above-highest s ss (omega arith))
+      eligible (one, inr i) = let e = T .highest in (one, omega arith, sym (known-among (i .0)) ∙ i .1)
+
+      admitted : Eligible ss s → Admitted w s
+      admitted (one, covered, new) = let e = T .highest in elim (decLt (w .highest) s) [
+        | yes l ↦ (one, inl l)
+        | no l ↦ let i : Inside w s = (omega arith, omega arith) in (one, inr (i, known-among i ∙ new))
+      ]
+
+-- ---- one more number accepted
 
 module _ (w : Window) (ss : List ℕ) (s : ℕ) (T : Tells w ss) (one : 1 ≤ s) where
   abbrev H : ℕ
@@ -47,11 +70,7 @@ module _ (w : Window) (ss : List ℕ) (s : ℕ) (T : Tells w ss) (one : 1 ≤ s)
 
   tells-inside : Inside w s → known w s ≡ false → Tells (marked w s) (s ∷ ss)
   tells-inside i new = record {
-    distinct = (
-      (let e : H - (H - s) ≡ s = omega arith in
-          sym (T .word (H - s) (omega arith) ∙ ap (λ (t : ℕ). among t ss) e) ∙ new),
-      T .distinct,
-    );
+    distinct = (sym (known-among w ss T s i) ∙ new, T .distinct);
     from-one = from-one;
     highest = let e = T .highest in omega arith;
     word = λ k h.

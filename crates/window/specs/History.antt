@@ -2,7 +2,7 @@
 use mathlib.Core.Path.{_≡_}
 use mathlib.Core.Bool.{Bool, false, cond, _||_}
 use mathlib.Core.List.{List, [], _∷_}
-use Prim.Native.Nat.{ℕ, _-_, _<_, max}
+use Prim.Native.Nat.{ℕ, _+_, _-_, _≤_, _<_, max}
 use lib.Dec.{eqb}
 use Rattle.bits.specs.Bit.{bit}
 use Rattle.answers.specs.Answer.{Answer, numberOf, Accepts}
@@ -39,6 +39,10 @@ Distinct (s ∷ ss) = (among s ss ≡ false) × Distinct ss
 abbrev pub highestOf : List ℕ → ℕ
 highestOf [] = 0
 highestOf (s ∷ ss) = max s (highestOf ss)
+
+-- s may be accepted after ss: it is not 0, not 64 or more below the highest of them, and none of them
+abbrev pub Eligible : List ℕ → ℕ → Type 0
+Eligible ss s = (1 ≤ s) × (highestOf ss < s + 64) × (among s ss ≡ false)
 
 -- ---- the window w tells of the accepted numbers ss
 
