@@ -1,7 +1,7 @@
 -- The library's names that the proofs use, each under its own name: a proof file brings them in from here.
 pub mod Walks
 pub use mathlib.Core.Path.{_≡_, refl, sym, ap, _∙_, subst, ap₂, subst⁻¹, fun-ext}
-pub use mathlib.Core.Logic.{_↔_, Iff·trans, Iff·and, Iff·not, _⊎_, ⊎-elim, inl, inr}
+pub use mathlib.Core.Logic.{_↔_, Iff·trans, Iff·and, ⊎-elim, inl, inr}
 pub use mathlib.Core.Bool.{Bool, true, false, not, cond, _&&_, and-comm, Bool·beq, and-true, and-false, and-assoc, false≢true}
 pub use mathlib.Core.Bool.{_||_, or-true, or-false, or-assoc, or-comm}
 pub use mathlib.Core.List.{List, [], _∷_, _++_, append-assoc, append-nil, map}
@@ -20,7 +20,7 @@ pub use lib.Bits.{xor-comm, xor-self, bitOr, or-shr, or-mod, or-lt}
 pub use lib.Pow.{pow-mono, shr-shr, shr-lt, field, mod-mod-pow, pow-add, shl-shr, pow-pos}
 pub use lib.Arith.{digits-div, digits-mod, digits-lt, lt-one, mod-mul}
 pub use lib.ListN.{take, drop, getD, length, length-append, length-take, List·getD-append, set, replicate, length-drop, length-replicate}
-pub use lib.ListN.{take-append-drop, replicate-append-replicate, length-set, List·getD-eq-default, drop-of-length-le}
+pub use lib.ListN.{take-append-drop, replicate-append-replicate, length-set, List·getD-eq-default}
 pub use lib.Seq.{take-take, take-add, drop-at, length-take-le, ext-getD, getD-append-add, take-at, drop-drop, drop-append-add, drop-cons}
 pub use lib.Seq.{getD-set-same, getD-set-other}
 pub use lib.Seq.{set-at, drop-length, getD-drop, take-suc, take-length, take-all, getD-take, take-append-le, drop-append-le, length-front}

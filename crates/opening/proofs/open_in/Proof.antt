@@ -1,5 +1,5 @@
 -- `open_in` meets its contract: each refusal of a record's form in its place, and then what verifying it gives. Assumes nothing.
-use Rattle.prelude.proofs.{refl, ap, not, _-_, arith, needs}
+use Rattle.prelude.proofs.{refl, ap, arith, needs}
 use Rattle.answers.proofs.First.{leaves-two, tests}
 use Rattle.opening.specs.Open.{openSays}
 use Rattle.opening.proofs.Answers.{open-refused, open-verified}
