@@ -40,6 +40,12 @@ static inline uint32_t swapmove(uint32_t x, uint32_t mask, int n)
     return x ^ t ^ (t << n);
 }
 
+static inline uint64_t swapmove_wide(uint64_t x, uint64_t mask, int n)
+{
+    uint64_t t = ((x >> n) ^ x) & mask;
+    return x ^ t ^ (t << n);
+}
+
 /* ---- between bytes and packed words */
 
 /* Four bytes as a word, the lowest first, with the bits of each byte made ready for transpose. */
@@ -117,15 +123,16 @@ static inline packed inverse_sub_cells(packed s)
     }};
 }
 
-/* Bit 4a + b goes to bit a of byte 3 - b. */
-static inline uint32_t perm_word(uint32_t x)
+/* Two words in one: in each half, bit 4a + b goes to bit a of byte 3 - b. */
+static inline uint64_t perm_words(uint64_t x)
 {
-    x = swapmove(x, 0x0a0a0a0a, 3);
-    x = swapmove(x, 0x00cc00cc, 6);
-    x = swapmove(x, 0x0000f0f0, 12);
-    return swapmove(x, 0x000000ff, 24);
+    x = swapmove_wide(x, 0x0a0a0a0a0a0a0a0a, 3);
+    x = swapmove_wide(x, 0x00cc00cc00cc00cc, 6);
+    x = swapmove_wide(x, 0x0000f0f00000f0f0, 12);
+    return swapmove_wide(x, 0x000000ff000000ff, 24);
 }
 
+/* Bit a of byte 3 - b goes to bit 4a + b. */
 static inline uint32_t inverse_perm_word(uint32_t x)
 {
     x = swapmove(x, 0x000000ff, 24);
@@ -136,11 +143,13 @@ static inline uint32_t inverse_perm_word(uint32_t x)
 
 static inline packed perm_bits(packed s)
 {
+    uint64_t x = perm_words(s.w[0] | (uint64_t)s.w[1] << 32);
+    uint64_t y = perm_words(s.w[2] | (uint64_t)s.w[3] << 32);
     return (packed){{
-        rotate_left(perm_word(s.w[0]), 8),
-        rotate_left(perm_word(s.w[1]), 16),
-        rotate_left(perm_word(s.w[2]), 24),
-        perm_word(s.w[3]),
+        rotate_left((uint32_t)x, 8),
+        rotate_left((uint32_t)(x >> 32), 16),
+        rotate_left((uint32_t)y, 24),
+        (uint32_t)(y >> 32),
     }};
 }
 

@@ -155,7 +155,7 @@ module _ {w : ℕ} {ws : List ℕ} {x : ℕ} {f : ℕ → List ℕ} (a : Made w 
         ∙ sum-when ws (ltb (n + i) w) (bit x (n + i)) (λ _. f (n + i)) (λ t. a .bits (n + i) (ltb→lt (n + i) w t));
   }
 
-  -- as a word of more bits, and its low bits
+  -- as a word of more bits, and of fewer that it fits in
   pub wider : (v : ℕ) → v ≤ 64 → w ≤ v → Made v ws x (down w 0 f)
   wider v d l = record {
     width = d;
@@ -165,11 +165,11 @@ module _ {w : ℕ} {ws : List ℕ} {x : ℕ} {f : ℕ → List ℕ} (a : Made w 
         bit-past w x i (a .fits) ∙ rw e (sum-when ws (ltb i w) (bit x i) (λ _. f i) (λ t. a .bits i (ltb→lt i w t)));
   }
 
-  pub cut : (v : ℕ) → v ≤ w → Made v ws (x % 2 ^ v) f
-  cut v l = record {
+  pub narrower : (v : ℕ) → v ≤ w → x < 2 ^ v → Made v ws x f
+  narrower v l k = record {
     width = le-trans l (a .width);
-    fits = mod-lt x (pow-pos v);
-    bits = λ i h. bit-low x v i h ∙ a .bits i (lt-of-lt-of-le h l);
+    fits = k;
+    bits = λ i h. a .bits i (lt-of-lt-of-le h l);
   }
 
   -- a word of which it is known that its bit i is bit (place i) of this one
@@ -198,17 +198,17 @@ module _ {w : ℕ} {ws : List ℕ} {x : ℕ} {f : ℕ → List ℕ} (a : Made w 
 
 -- ---- a delta swap
 
-abbrev differing-places : ℕ → ℕ → Places → Places
-differing-places m n f = at-mask m (joined (down 32 n f) f)
+abbrev differing-places : ℕ → ℕ → ℕ → Places → Places
+differing-places w m n f = at-mask m (joined (down w n f) f)
 
-abbrev pub swapped-places : ℕ → ℕ → Places → Places
-swapped-places m n f = joined (joined f (differing-places m n f)) (up n (differing-places m n f))
+abbrev pub swapped-places : ℕ → ℕ → ℕ → Places → Places
+swapped-places w m n f = joined (joined f (differing-places w m n f)) (up n (differing-places w m n f))
 
 -- one word, and what a delta swap makes of a word
-pub alone : {x : ℕ} → x < 2 ^ 32 → Made 32 (x ∷ []) x (own 0)
-alone {x} h = input 32 (x ∷ []) 0 (omega arith) h
+pub alone : {w x : ℕ} → T (leb w 64) → x < 2 ^ w → Made w (x ∷ []) x (own 0)
+alone {w} {x} d h = input w (x ∷ []) 0 (leb→le w 64 d) h
 
-pub swapped : {ws : List ℕ} {x y : ℕ} {f : ℕ → List ℕ} (m n : ℕ) → Made 32 ws x f → y ≡ swapmove x m n
-    → Made 32 ws y (swapped-places m n f)
+pub swapped : {w : ℕ} {ws : List ℕ} {x y : ℕ} {f : ℕ → List ℕ} (m n : ℕ) → Made w ws x f → y ≡ swapmove w x m n
+    → Made w ws y (swapped-places w m n f)
 unfolding swapmove
 swapped m n a e = let t = masked (xored (shr a n) a) m in equal (xored (xored a t) (shl t n)) e

@@ -1,5 +1,5 @@
 // The steps of a round on a block in packed form, all but the S-box.
-use bits::swapmove;
+use bits::swapmove_wide;
 ghost use mathlib.Core.Path.{_≡_};
 ghost use Prim.Native.Nat.{ℕ, _+_, _-_, _*_, _/_, _%_, _<_};
 ghost use Rattle.bits.specs.Bit.{bit};
@@ -9,23 +9,25 @@ ghost use Rattle.words.specs.Words.{unpacked};
 
 pub const ROUNDS: usize = 35;
 
-// Bit 4a + b goes to bit a of byte 3 - b.
-fn perm_word(x: u32) -> u32
-    ensures { λ r. ⌜ ((i : ℕ) → i < 32 → bit r i ≡ bit x (4 * (i % 8) + (3 - i / 8))) ⌝ }
+// Two words in one: in each half, bit 4a + b goes to bit a of byte 3 - b.
+fn perm_words(x: u64) -> u64
+    ensures { λ r. ⌜ ((i : ℕ) → i < 64 → bit r i ≡ bit x (32 * (i / 32) + 4 * (i % 8) + (3 - i % 32 / 8))) ⌝ }
 {
-    let x1 = swapmove(x, 0x0a0a_0a0a, 3);
-    let x2 = swapmove(x1, 0x00cc_00cc, 6);
-    let x3 = swapmove(x2, 0x0000_f0f0, 12);
-    swapmove(x3, 0xff, 24)
+    let x1 = swapmove_wide(x, 0x0a0a_0a0a_0a0a_0a0a, 3);
+    let x2 = swapmove_wide(x1, 0x00cc_00cc_00cc_00cc, 6);
+    let x3 = swapmove_wide(x2, 0x0000_f0f0_0000_f0f0, 12);
+    swapmove_wide(x3, 0x0000_00ff_0000_00ff, 24)
 }
 
 pub fn perm_bits(s: [u32; 4]) -> [u32; 4]
     ensures { λ r. ⌜ unpacked r ≡ permBits (unpacked s) ⌝ }
 {
-    let a = perm_word(s[0]);
-    let b = perm_word(s[1]);
-    let c = perm_word(s[2]);
-    let d = perm_word(s[3]);
+    let x = perm_words(s[0] as u64 ^ (s[1] as u64) << 32);
+    let y = perm_words(s[2] as u64 ^ (s[3] as u64) << 32);
+    let a = (x & 0xffff_ffff) as u32;
+    let b = (x >> 32) as u32;
+    let c = (y & 0xffff_ffff) as u32;
+    let d = (y >> 32) as u32;
     [
         (a << 8) ^ (a >> 24),
         (b << 16) ^ (b >> 16),

@@ -12,7 +12,7 @@ returns c =
     let c₂ = c₃ .before in
     let c₁ = c₂ .before in
     let y = c₁ .before in
-    let flips = moved (swapped _ _ (alone (y .before .fits .x .fits)) (y .swapmove .ensures)) (λ _. 0) (reversed 3) tt in
+    let flips = moved (swapped _ _ (alone tt (y .before .fits .x .fits)) (y .swapmove .ensures)) (λ _. 0) (reversed 3) tt in
     λ i.
     (c₁ .byte .ensures ∙ byte-at _ 24 _ (λ j h. flips (24 + j) (omega arith))) i
     ∷ (c₂ .byte2 .ensures ∙ byte-at _ 16 _ (λ j h. flips (16 + j) (omega arith))) i
