@@ -55,10 +55,10 @@ extern "C" {
 
 /* ---- version of this header and of the archive that comes with it: see CHANGELOG.md */
 
-#define RASPPUCE_VERSION_MAJOR 3
+#define RASPPUCE_VERSION_MAJOR 4
 #define RASPPUCE_VERSION_MINOR 0
 #define RASPPUCE_VERSION_PATCH 0
-#define RASPPUCE_VERSION       "3.0.0"
+#define RASPPUCE_VERSION       "4.0.0"
 
 /* ---- answers: success, refusals from the input (1 to 10), from the link's state (20 to 22), of
  * bodies (30 to 32), of a report's round and lane (33 and 34), of a number out of the window (35) */
@@ -82,7 +82,7 @@ extern "C" {
 #define RASPPUCE_BODY_WORD    31u /* read: a word of kind 0, a kind 1 to 4 for the second time, or an
                                      offset out of its range; written: a value out of its range */
 #define RASPPUCE_BODY_MISSING 32u /* the body has no word of kind 1, 2 or 3 */
-#define RASPPUCE_ROUND        33u /* the round to be shown isn't in 1 to 35 */
+#define RASPPUCE_ROUND        33u /* the round to be shown isn't in 1 to 36 */
 #define RASPPUCE_LANE         34u /* the lane to be shown isn't in 0 to 2 */
 #define RASPPUCE_BELOW_WINDOW 35u /* the record's number is 0, or 64 or more below the highest
                                      accepted one */
@@ -105,15 +105,16 @@ extern "C" {
 #define RASPPUCE_BODY_MOST           256u /* the longest body that can be read */
 #define RASPPUCE_VALUES_BYTES        17u  /* the values of a mark */
 #define RASPPUCE_KEY_MASKS_BYTES     64u  /* of a tape: two masks for each key, at its start */
-#define RASPPUCE_ROUND_MASKS_BYTES   32u  /* of a tape: two masks for each round of each call */
-#define RASPPUCE_TAPE_MOST           38144u /* the tape for the longest message */
+#define RASPPUCE_ROUND_MASKS_BYTES   32u  /* of a tape: two masks, for a round of a call or its output */
+#define RASPPUCE_TAPE_MOST           39232u /* the tape for the longest message */
 #define RASPPUCE_STACK_MOST          5120u  /* the stack of any call, and a quarter more */
 
 /* How many numbers a receiver's window covers: the highest accepted one and those right below it. */
 #define RASPPUCE_WINDOW 64u
 
-/* The last round that a report can show, and the last lane; rounds count from 1, lanes from 0. */
-#define RASPPUCE_LAST_ROUND 35u
+/* The last round that a report can show, and the last lane; rounds count from 1, lanes from 0. The
+ * cipher has one round less: the last shows the call's output. */
+#define RASPPUCE_LAST_ROUND 36u
 #define RASPPUCE_LAST_LANE  2u
 
 /* The first and the last local offset of a mark, in minutes; what its seconds and its fraction of a
@@ -274,10 +275,10 @@ uint32_t rasppuce_seal_plain(const uint8_t *keys, size_t keys_len,
  *
  * call   1 to RASPPUCE_CALLS(message_len); for n blocks of message, calls 1 to n make the key
  *        stream, call n+1 the subkeys, calls n+2 to 2n+2 the tag
- * round  1 to 35
+ * round  1 to 36; 36 shows the call's output, after the masks that go into it
  * lane   0 to 2
- * out    gets 48 bytes: state shares lane+1 and lane+2 (counted modulo 3), then key share lane as
- *        the round adds it
+ * out    gets 48 bytes: state shares lane+1 and lane+2 (counted modulo 3), just after the round's
+ *        masks, then key share lane as the round adds it; for round 36, as round 35 does
  *
  * Refuses: RASPPUCE_NOT_KEYED, RASPPUCE_NUMBERS_USED, RASPPUCE_MESSAGE, RASPPUCE_TAPE,
  * RASPPUCE_CALL, RASPPUCE_ROUND, RASPPUCE_LANE, RASPPUCE_OUTPUT (shorter than 48).

@@ -4,7 +4,7 @@ use Rattle.prelude.proofs.{_≤_, _<_, decLt, ℕ-discrete, arith, eqb, length,
 use Rattle.prelude.proofs.{take-all, eq-eqb, ne-eqb}
 use Rattle.blocks.specs.Bytes.{Bytes, Block, _⊕_, zeros, blockCount, piece}
 use Rattle.blocks.proofs.Xor.{⊕-comm, ⊕-length, ⊕-replicate, take-⊕, append-⊕}
-use Rattle.baksheesh.specs.Baksheesh.{encrypt}
+use Rattle.baksheesh.specs.Baksheesh.{rounds, encrypt}
 use Rattle.baksheesh.proofs.Inverse.{encrypt-block}
 use Rattle.modes.specs.Cmac.{doubled, subkey₁, subkey₂, lastBlock}
 use Rattle.modes.specs.Cmac as Cmac
@@ -14,7 +14,7 @@ use Rattle.links.specs.{Record.standard, Record.counterBlock, Record.recordOf, 
 use Rattle.links.proofs.Record.{counter-block}
 use Rattle.plain.specs.Plain.{crypted, authenticated, macOf, plainRecord}
 use Rattle.masking.specs.Shares.{Shares, Blocks, join, add, each, only, sharesIn, Reader}
-use Rattle.masking.specs.{Stages.plainAfter, Call.encryption, Call.pairCount, Call.plainEncryption}
+use Rattle.masking.specs.{Stages.plainAfter, Call.encryption, Call.plainEncryption}
 use Rattle.masking.proofs.Joins.{Linear, join-add, join-only, join-zeros, join-map}
 use Rattle.masking.proofs.{Shape.Reads, Encryption.encryption-blocks, Encryption.encryption-joins, Encryption.plain-encrypts}
 use Rattle.runs.specs.Run.{Run, outputOf}
@@ -190,14 +190,14 @@ module _ (x : Sender) (m : List ℕ) (F : Formed x) (b : Bytes m) where
 
   -- the plain cipher's output of call k
   made-plainly : (k : ℕ) → let c = callOf n k in
-      plainAfter plainEncryption (join (sharesIn (ofKey (x .ke) (x .km) c))) (input c) pairCount ≡ encrypt (ofKey KE KM c) (input c)
+      plainAfter plainEncryption (join (sharesIn (ofKey (x .ke) (x .km) c))) (input c) rounds ≡ encrypt (ofKey KE KM c) (input c)
   made-plainly k =
       let c : Call = callOf n k in
       plain-encrypts _ _ ∙ ap (λ (z : List ℕ). encrypt z (input c)) (given-join c)
 
   pub sealing-joins : (k : ℕ) → 1 ≤ k → k ≤ callCount n → (f : ℕ → Shares) → ((j : ℕ) → Blocks (f j))
       → ((j : ℕ) → 1 ≤ j → j < k
-      → join (f j) ≡ plainAfter plainEncryption (join (sharesIn (ofKey (x .ke) (x .km) (callOf n j)))) (input (callOf n j)) pairCount)
+      → join (f j) ≡ plainAfter plainEncryption (join (sharesIn (ofKey (x .ke) (x .km) (callOf n j)))) (input (callOf n j)) rounds)
       → join (inputFrom x m (callOf n k) f) ≡ input (callOf n k)
   sealing-joins k l h f fb fj =
       inputs-join f fb k

@@ -10,8 +10,8 @@ use Rattle.answers.proofs.First.{if-done}
 use Rattle.links.specs.{Record.standard, Record.recordSize, declared.Sender.Sender}
 use Rattle.masking.specs.Shares.{flat, next, isFirst, Shares, Blocks, join, at, pairSize, masksAt}
 use Rattle.masking.specs.{Stages.lane, Call.encryption, Call.pairCount, OneTape.roundOnLane, OneTape.ExactlyOne}
-use Rattle.masking.proofs.Lane.{first-part, second-part, third-part, parts-length}
-use Rattle.masking.proofs.Encryption.{encryption-blocks, encryption-joins, encryption-turns, plain-after, lane-follows, call-lane}
+use Rattle.masking.proofs.Lane.{first-part, second-part, third-part, parts-length, lane-next, lane-after}
+use Rattle.masking.proofs.Encryption.{encryption-blocks, encryption-joins, encryption-turns, plain-after, masked-lane, lane-follows}
 use Rattle.masking.proofs.{Shape.Reads, Tape.at-reads, MaskedCall.one-accepted}
 use Rattle.runs.specs.Run.{Run, keyShares, inputOf, outputOf, laneOf}
 use Rattle.runs.specs.Lanes.{laneSize}
@@ -29,6 +29,12 @@ index-next zero l = refl
 index-next (suc zero) l = refl
 index-next (suc (suc zero)) l = refl
 index-next (suc (suc (suc i))) l = absurd (omega arith)
+
+index-after : (i : ℕ) → i < 3 → indexOf ((i + 2) % 3) ≡ next (next (indexOf i))
+index-after zero l = refl
+index-after (suc zero) l = refl
+index-after (suc (suc zero)) l = refl
+index-after (suc (suc (suc i))) l = absurd (omega arith)
 
 part-flat : (s : Shares) → Blocks s → (i : ℕ) → i < 3 → part (16 * i) 16 (flat s) ≡ s (indexOf i)
 part-flat s p zero l = first-part (p _) (p _) (p _)
@@ -137,7 +143,7 @@ module _ (S : AcceptedSealing) where
 
   -- ---- from round to round
 
-  pub followed : (k r i : ℕ) → 1 ≤ k → k ≤ callCount n → 1 ≤ r → r < rounds → i < 3
+  pub followed : (k r i : ℕ) → 1 ≤ k → k ≤ callCount n → 1 ≤ r → r < pairCount → i < 3
       → part 0 16 (shown x m t k (r + 1) i)
       ≡ roundOnLane (r - 1) (isFirst (next (indexOf i))) (shown x m t k r ((i + 1) % 3))
       ⊕ masksAt (at t) (masksOf k (r + 1)) (next (indexOf i))
@@ -150,13 +156,44 @@ module _ (S : AcceptedSealing) where
       ap (part 0 16) (shown-lane k (r + 1) k₁ kₙ (omega arith) (omega arith) i l
       ∙ ap (λ (q : ℕ). lane encryption (keyShares encryption R (at t) k) (inputOf encryption R (at t) k) (at t) (callAt k) q
       (indexOf i)) up)
-      ∙ lane-follows (at t) (callAt k) (r - 1) keys inputs all (indexOf i)
+      ∙ lane-follows (at t) (callAt k) (r - 1) (omega arith) keys inputs all (indexOf i)
       ∙ ap₂ (λ (s : List ℕ) (q : ℕ).
       roundOnLane (r - 1) (isFirst (next (indexOf i))) s ⊕ masksAt (at t) (callAt k + pairSize * q) (next (indexOf i)))
       (ap (laneOf encryption R (at t) k r) (sym (index-next i l)) ∙ sym (shown-lane k r k₁ kₙ r₁ (omega arith) ((i + 1) % 3) (omega arith)))
       (sym up)
 
-  -- ---- the tag's shares: the last round of the last call
+  -- ---- the last pair shows the output
+
+  module _ (k i : ℕ) (k₁ : 1 ≤ k) (kₙ : k ≤ callCount n) (l : i < 3) where
+    all : Reads (at t) (callAt k + pairSize * rounds + pairSize)
+    all p h = reads p (omega arith)
+
+    keys : Blocks (keyShares encryption R (at t) k)
+    keys = key-blocks placed encryption-blocks blocks (at t) k _ (omega arith) all
+
+    inputs : Blocks (inputOf encryption R (at t) k)
+    inputs = input-blocks placed encryption-blocks blocks (at t) k _ k₁ (omega arith) all
+
+    last : shown x m t k pairCount i ≡ laneOf encryption R (at t) k pairCount (indexOf i)
+    last = shown-lane k pairCount k₁ kₙ (omega arith) (omega arith) i l
+
+    pub output-shown : let out = outputOf encryption R (at t) k in let s = shown x m t k pairCount i in
+        (part 0 16 s ≡ out (next (indexOf i))) × (part 16 16 s ≡ out (next (next (indexOf i))))
+    unfolding outputOf laneOf
+    output-shown = (
+      ap (part 0 16) last ∙ lane-next encryption-blocks (at t) (callAt k) rounds keys inputs all (indexOf i),
+      ap (part 16 16) last ∙ lane-after encryption-blocks (at t) (callAt k) rounds keys inputs all (indexOf i),
+    )
+
+    output-lane : outputOf encryption R (at t) k (indexOf i)
+        ≡ roundOnLane (rounds - 1) (isFirst (indexOf i)) (shown x m t k rounds i) ⊕ masksAt (at t) (masksOf k pairCount) (indexOf i)
+    unfolding outputOf laneOf
+    output-lane =
+        masked-lane (at t) (callAt k) (rounds - 1) (omega arith) keys inputs (λ p h. reads p (omega arith)) (indexOf i)
+        ∙ ap (λ (s : List ℕ). roundOnLane (rounds - 1) (isFirst (indexOf i)) s ⊕ masksAt (at t) (masksOf k pairCount) (indexOf i))
+        (sym (shown-lane k rounds k₁ kₙ (omega arith) (omega arith) i l))
+
+  -- ---- the tag's shares: the output of the last call
 
   tag-blocks : Blocks (tagShares x m (at t))
   tag-blocks = output-blocks placed encryption-blocks blocks (at t) (callCount n) (omega arith) (λ p h. reads p (omega arith))
@@ -164,18 +201,22 @@ module _ (S : AcceptedSealing) where
   pub tag-size : length (flat (tagShares x m (at t))) ≡ 48
   tag-size = parts-length (tag-blocks _) (tag-blocks _) (tag-blocks _)
 
-  pub tag-lane : (i : ℕ) → i < 3
-      → part (16 * i) 16 (sealShares x m t o) ≡ roundOnLane (rounds - 1) (isFirst (indexOf i)) (shown x m t (callCount n) rounds i)
-  unfolding outputOf laneOf
-  tag-lane i l =
-      let k : ℕ = callCount n in
-      let all : Reads (at t) (tapeNeed (length m)) = reads in
+  tag-share : (i : ℕ) → i < 3 → part (16 * i) 16 (sealShares x m t o) ≡ tagShares x m (at t) (indexOf i)
+  tag-share i l =
       ap (part (16 * i) 16) (sym (if-done returned (flat (tagShares x m (at t))) (replicate 48 0)))
       ∙ part-flat (tagShares x m (at t)) tag-blocks i l
-      ∙ call-lane (at t) (callAt k) (key-blocks placed encryption-blocks blocks (at t) k _ (omega arith) all)
-      (input-blocks placed encryption-blocks blocks (at t) k _ (omega arith) (omega arith) all) (λ p h. reads p (omega arith)) (indexOf i)
-      ∙ ap (roundOnLane (rounds - 1) (isFirst (indexOf i)))
-      (sym (shown-lane k rounds (omega arith) (omega arith) (omega arith) (omega arith) i l))
+
+  pub tag-lane : (i : ℕ) → i < 3 → let k = callCount n in part (16 * i) 16 (sealShares x m t o)
+      ≡ roundOnLane (rounds - 1) (isFirst (indexOf i)) (shown x m t k rounds i) ⊕ masksAt (at t) (masksOf k pairCount) (indexOf i)
+  tag-lane i l = tag-share i l ∙ output-lane (callCount n) i (omega arith) (omega arith) l
+
+  pub tag-shown : (i : ℕ) → i < 3 → let s = shown x m t (callCount n) pairCount i in let tag = sealShares x m t o in
+      (part 0 16 s ≡ part (16 * ((i + 1) % 3)) 16 tag) × (part 16 16 s ≡ part (16 * ((i + 2) % 3)) 16 tag)
+  tag-shown i l =
+      let s = output-shown (callCount n) i (omega arith) (omega arith) l in (
+        s .0 ∙ ap (tagShares x m (at t)) (sym (index-next i l)) ∙ sym (tag-share ((i + 1) % 3) (omega arith)),
+        s .1 ∙ ap (tagShares x m (at t)) (sym (index-after i l)) ∙ sym (tag-share ((i + 2) % 3) (omega arith)),
+      )
 
 -- ---- two accepted sealings of messages of one length: exactly one tape shows with the second the lane seen with the first
 

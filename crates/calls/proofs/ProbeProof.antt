@@ -1,8 +1,8 @@
 -- Probe-proof: any lane of any round of any call fits every key alike; lanes join to the plain cipher's state and key; each tag
--- share is round 35 done on its lane alone. Assumes nothing.
+-- share is round 35 done on its lane alone, masked. Round 36 stands for the output. Assumes nothing.
 use Rattle.prelude.proofs.{_≡_, sym, ap, _∙_, List, ℕ, _+_, _-_, _*_, _%_, _≤_, _<_, arith, length, take}
 use Rattle.blocks.specs.Bytes.{_⊕_, part, put, blockCount}
-use Rattle.baksheesh.specs.Baksheesh.{rounds}
+use Rattle.baksheesh.specs.Baksheesh.{rounds, encrypt}
 use Rattle.links.specs.declared.Sender.{Sender}
 use Rattle.masking.specs.Shares.{next, isFirst, at, masksAt}
 use Rattle.masking.specs.{Stages.state, Stages.lane, Call.encryption, Call.pairCount, OneTape.ExactlyOne, OneTape.roundOnLane}
@@ -10,12 +10,13 @@ use Rattle.masking.proofs.{Causal.Agree, Causal.state-agree, Tape.take-agree}
 use Rattle.answers.specs.Answer.{numberOf, Accepts}
 use Rattle.answers.proofs.First.{if-done}
 use Rattle.calls.specs.Entry.{sealShares, reportAnswer, reportOutput, indexOf}
-use Rattle.calls.specs.Demand.{AcceptedSealing, shown, masksOf, SameLane, Joined}
+use Rattle.calls.specs.Demand.{AcceptedSealing, shown, masksOf, SameLane, Joined, OutputJoined}
 use Rattle.calls.specs.{Numbered.callCount, Numbered.callAt, Sealed.sealingCalls}
-use Rattle.runs.specs.Run.{keyShares, inputOf, laneOf}
+use Rattle.calls.specs.Plain.{plainState, plainKey}
+use Rattle.runs.specs.Run.{keyShares, inputOf, outputOf, laneOf}
 use Rattle.runs.specs.Lanes.{laneSize}
 use Rattle.runs.proofs.Run.{key-agree, input-agree}
-use Rattle.calls.proofs.Lanes.{can-seal, shown-lane, joined, followed, tag-lane, exactly-one}
+use Rattle.calls.proofs.Lanes.{can-seal, shown-lane, joined, followed, output-shown, tag-lane, tag-shown, exactly-one}
 use Rattle.calls.proofs.{Shape.sealing-placed, Accepted.reported}
 
 -- two accepted sealings of equal message length, whatever their links, keys, texts and tapes; any lane of any round of any call:
@@ -33,13 +34,29 @@ pub lanes-join : (S : AcceptedSealing) (k r : ℕ) → 1 ≤ k → k ≤ callCou
     → Joined (S .link) (S .message) (S .tape) k r
 lanes-join = joined
 
+-- of the output, which round 36 shows: the state shares XOR to the block that the plain cipher makes, and the key shares to the key of
+-- round 35
+pub output-lanes-join : (S : AcceptedSealing) (k : ℕ) → 1 ≤ k → k ≤ callCount (blockCount (length (S .message)))
+    → OutputJoined (S .link) (S .message) (S .tape) k
+unfolding plainState plainKey encrypt
+output-lanes-join S k k₁ kₙ =
+    let j = joined S k pairCount k₁ kₙ (omega arith) (omega arith) in
+    record { states = j .states; keys = j .keys }
+
 -- share i of the tag is the S-box, bit move, constants (share 0) and key share i of round 35, done on the 48 bytes of lane i of the last
--- call, 2n + 2, and on nothing else
-pub tag-shares : (S : AcceptedSealing) (i : ℕ) → i < 3
-    → part (16 * i) 16 (sealShares (S .link) (S .message) (S .tape) (length (S .out)))
-    ≡ roundOnLane (rounds - 1) (isFirst (indexOf i))
-    (shown (S .link) (S .message) (S .tape) (callCount (blockCount (length (S .message)))) rounds i)
+-- call, 2n + 2, and on nothing else, XORed with its mask of that call's last pair: u, v or u XOR v
+pub tag-shares : (S : AcceptedSealing) (i : ℕ) → i < 3 → let k = callCount (blockCount (length (S .message))) in
+    part (16 * i) 16 (sealShares (S .link) (S .message) (S .tape) (length (S .out)))
+    ≡ roundOnLane (rounds - 1) (isFirst (indexOf i)) (shown (S .link) (S .message) (S .tape) k rounds i)
+    ⊕ masksAt (at (S .tape)) (masksOf k pairCount) (indexOf i)
 tag-shares = tag-lane
+
+-- and two by two the tag's shares are the state shares of round 36's lanes
+pub tag-shares-shown : (S : AcceptedSealing) (i : ℕ) → i < 3
+    → let s = shown (S .link) (S .message) (S .tape) (callCount (blockCount (length (S .message)))) pairCount i in
+    let tag = sealShares (S .link) (S .message) (S .tape) (length (S .out)) in
+    (part 0 16 s ≡ part (16 * ((i + 1) % 3)) 16 tag) × (part 16 16 s ≡ part (16 * ((i + 2) % 3)) 16 tag)
+tag-shares-shown = tag-shown
 
 -- ---- what the three speak of
 
@@ -62,8 +79,16 @@ pub lanes-used : (S : AcceptedSealing) (k r i : ℕ) → 1 ≤ k → k ≤ callC
 unfolding laneOf
 lanes-used S k r i k₁ kₙ r₁ rₙ l = shown-lane S k r k₁ kₙ r₁ rₙ i l
 
--- what a round makes of a share needs its lane alone: with the next round's mask it is the share that the next round's lanes show
-pub lanes-follow : (S : AcceptedSealing) (k r i : ℕ) → 1 ≤ k → k ≤ callCount (blockCount (length (S .message))) → 1 ≤ r → r < rounds → i < 3
+-- the lanes of round 36 of any call show the output that later calls, and the record, are made of
+pub outputs-shown : (S : AcceptedSealing) (k i : ℕ) → 1 ≤ k → k ≤ callCount (blockCount (length (S .message))) → i < 3
+    → let out = outputOf encryption (sealingCalls (S .link) (S .message)) (at (S .tape)) k in
+    let s = shown (S .link) (S .message) (S .tape) k pairCount i in
+    (part 0 16 s ≡ out (next (indexOf i))) × (part 16 16 s ≡ out (next (next (indexOf i))))
+outputs-shown = output-shown
+
+-- what a round makes of a share needs its lane alone: with the next pair's mask it is the share that the next round's lanes show, or the
+-- output's
+pub lanes-follow : (S : AcceptedSealing) (k r i : ℕ) → 1 ≤ k → k ≤ callCount (blockCount (length (S .message))) → 1 ≤ r → r < pairCount → i < 3
     → part 0 16 (shown (S .link) (S .message) (S .tape) k (r + 1) i)
     ≡ roundOnLane (r - 1) (isFirst (next (indexOf i))) (shown (S .link) (S .message) (S .tape) k r ((i + 1) % 3))
     ⊕ masksAt (at (S .tape)) (masksOf k (r + 1)) (next (indexOf i))

@@ -94,7 +94,7 @@ unfolding reportAnswer
 report-refused-exactly x m t k r i o n = refused-exactly n (reportCauses x m t k r i o) []
 
 -- where sealing is accepted, with room for s bytes, the report of any call, round and lane, with room for o bytes, refuses under 6 exactly
--- if the call is not one of 1 to 2n + 2; under 33 exactly if it is and the round is not one of 1 to 35; under 34 exactly if both are and
+-- if the call is not one of 1 to 2n + 2; under 33 exactly if it is and the round is not one of 1 to 36; under 34 exactly if both are and
 -- the lane is not one of 0 to 2; under 4 exactly if all are and o is under 48; and accepts exactly if it is not
 pub report-tells-number : (x : Sender) (m t : List ℕ) (s : ℕ) → Accepted x m t s → (k r i o : ℕ)
     → TellsNumber (callCount (blockCount (length m))) pairCount k r i o (reportAnswer x m t k r i o)

@@ -5,6 +5,7 @@ use mathlib.Core.List.{List}
 use Prim.Native.Nat.{ℕ, _+_, _-_, _*_, _%_, _^_, _≤_, _<_}
 use lib.ListN.{length, replicate}
 use Rattle.blocks.specs.Bytes.{Bytes, _⊕_, part, blockCount}
+use Rattle.baksheesh.specs.Baksheesh.{rounds, rotated}
 use Rattle.answers.specs.Answer.{Accepts}
 use Rattle.links.specs.Record.{standard, numberSize}
 use Rattle.links.specs.declared.Sender.{Sender}
@@ -12,8 +13,8 @@ use Rattle.masking.specs.Shares.{join, sharesIn, pairSize}
 use Rattle.masking.specs.Call.{pairCount}
 use Rattle.masking.specs.OneTape.{laneMask, Shows}
 use Rattle.runs.specs.Lanes.{laneSize}
-use Rattle.calls.specs.Numbered.{callOf, callCount, keyAt, callAt}
-use Rattle.calls.specs.Plain.{plainState, plainKey}
+use Rattle.calls.specs.Numbered.{callOf, callCount, ofKey, keyAt, callAt}
+use Rattle.calls.specs.Plain.{plainState, plainKey, plainOutput}
 use Rattle.calls.specs.Entry.{sealAnswer, sealLink, sealShares, sealOutput, indexOf, reportOutput}
 
 -- what the fields of a sending link can hold
@@ -74,14 +75,22 @@ pub record SameSealing (x : Sender) (m o t u : List ℕ) : Type 0 where
   pub lanes : (k r i : ℕ) → 1 ≤ k → k ≤ callCount (blockCount (length m)) → 1 ≤ r → r ≤ pairCount → i < 3
       → shown x m u k r i ≡ shown x m t k r i
 
--- the three lanes of round r of call k
+-- the three lanes of round r of call k; behind the last round, of the output
 pub record Joined (x : Sender) (m t : List ℕ) (k r : ℕ) : Type 0 where
   pub sized : (i : ℕ) → i < 3 → length (shown x m t k r i) ≡ laneSize
   -- a state share stands in two lanes with the same bytes; so the first of each lane are the three distinct ones
   pub twice : (i : ℕ) → i < 3 → part 16 16 (shown x m t k r i) ≡ part 0 16 (shown x m t k r ((i + 1) % 3))
-  -- they XOR to the plain cipher's state on entering the round
+  -- they XOR to the plain cipher's state there
   pub states : part 0 16 (shown x m t k r 0) ⊕ (part 0 16 (shown x m t k r 1) ⊕ part 0 16 (shown x m t k r 2))
       ≡ plainState (joinedKE x) (joinedKM x) (x .number) (x .last + 1) m k r
-  -- and the key shares to the key that it adds at the round's end
+  -- and the key shares to the key that it adds at the round's end; behind the last round, to that round's
   pub keys : part 32 16 (shown x m t k r 0) ⊕ (part 32 16 (shown x m t k r 1) ⊕ part 32 16 (shown x m t k r 2))
       ≡ plainKey (joinedKE x) (joinedKM x) (x .number) (x .last + 1) m k r
+
+-- those of the output of call k: the state shares XOR to the block that the plain cipher makes of the call's input, the key shares to
+-- the last round's key
+pub record OutputJoined (x : Sender) (m t : List ℕ) (k : ℕ) : Type 0 where
+  pub states : part 0 16 (shown x m t k pairCount 0) ⊕ (part 0 16 (shown x m t k pairCount 1) ⊕ part 0 16 (shown x m t k pairCount 2))
+      ≡ plainOutput (joinedKE x) (joinedKM x) (x .number) (x .last + 1) m k
+  pub keys : part 32 16 (shown x m t k pairCount 0) ⊕ (part 32 16 (shown x m t k pairCount 1) ⊕ part 32 16 (shown x m t k pairCount 2))
+      ≡ rotated rounds (ofKey (joinedKE x) (joinedKM x) (callOf (blockCount (length m)) k))

@@ -1,6 +1,8 @@
 // Shared sealing and the lane report: records, tag shares, lanes and refusals.
 use links::Sender;
+use path::tape_need;
 use sealing::SealAnswer;
+use shares::PAIRS;
 ghost use Prim.Native.Nat.{_≤_};
 ghost use lib.ListN.{length};
 
@@ -25,14 +27,6 @@ fn try_lane(link: Sender, tape: &[u8], call: u32, round: u32, lane: u32) {
     show::tried(b"", answer.number() as u64);
 }
 
-// The tape bytes that a message of n bytes needs.
-fn need(n: usize) -> usize
-    requires { ⌜ n ≤ 256 ⌝ }
-    ensures { λ r. ⌜ r ≤ 38144 ⌝ }
-{
-    64 + 1120 * (2 * ((n + 15) / 16) + 2)
-}
-
 // Prints the record of a message, its tag's shares and how much of the tape was read.
 fn seal(link: Sender, message: &[u8], tape: &[u8]) -> Sender {
     let mut record = [0u8; 280];
@@ -53,9 +47,9 @@ fn seal(link: Sender, message: &[u8], tape: &[u8]) -> Sender {
 
 // Seals the first n bytes of a message with a tape that is `more` bytes longer than it needs.
 fn seal_first(link: Sender, message: &[u8], n: usize, tape: &[u8], more: usize) -> Sender
-    requires { ⌜ (n ≤ 256) × (more ≤ 1) × (256 ≤ length (now message)) × (38145 ≤ length (now tape)) ⌝ }
+    requires { ⌜ (n ≤ 256) × (more ≤ 1) × (256 ≤ length (now message)) × (39233 ≤ length (now tape)) ⌝ }
 {
-    let t = need(n) + more;
+    let t = tape_need(n) + more;
     seal(link, &message[..n], &tape[..t])
 }
 
@@ -68,10 +62,17 @@ fn lane(link: Sender, message: &[u8], tape: &[u8], call: u32, round: u32, lane: 
     show::bytes(&out);
 }
 
-// The three lanes of the first round of a call, of one in the middle and of the last.
+// The three lanes of the first round of a call, of one in the middle, of the last and of the output.
 fn lanes(link: Sender, message: &[u8], tape: &[u8], call: u32) {
-    for k in 0..9u32 {
-        lane(link, message, tape, call, 1 + 17 * (k / 3), k % 3);
+    let last = PAIRS as u32;
+    for k in 0..12u32 {
+        let round = match k / 3 {
+            0 => 1,
+            1 => 18,
+            2 => last - 1,
+            _ => last,
+        };
+        lane(link, message, tape, call, round, k % 3);
     }
 }
 
@@ -93,8 +94,8 @@ fn length(i: usize) -> usize
 fn refused_reports(link: Sender) {
     let mut out = [0u8; 48];
     let mut short_out = [0u8; 47];
-    let tape = [0u8; 2304];
-    try_report(b"report tape one short ", link, b"", &[0; 2303], &mut out);
+    let tape = [0u8; 2368];
+    try_report(b"report tape one short ", link, b"", &[0; 2367], &mut out);
     try_report(b"report 257 bytes ", link, &[0; 257], &tape, &mut out);
     try_report(b"report not keyed ", Sender::fresh(), b"", &tape, &mut out);
     try_report(
@@ -108,17 +109,18 @@ fn refused_reports(link: Sender) {
 
 // The last call, round and lane, the ones past them, and each with each.
 fn refused_lanes(link: Sender) {
-    let tape = [0u8; 2304];
+    let tape = [0u8; 2368];
+    let last = PAIRS as u32;
     for k in 0..8u32 {
-        try_lane(link, &tape, 2 + k / 4, 35 + k / 2 % 2, 2 + k % 2);
+        try_lane(link, &tape, 2 + k / 4, last + k / 2 % 2, 2 + k % 2);
     }
 }
 
 // Lanes of the first call, of the one behind CTR's and of the last.
 fn reports(link: Sender) {
     let mut message = [0u8; 17];
-    let mut tape = [0u8; 6784];
-    let mut short_tape = [0u8; 2304];
+    let mut tape = [0u8; 6976];
+    let mut short_tape = [0u8; 2368];
     show::fill(&mut message, 3, 7);
     show::fill(&mut tape, 5, 13);
     show::fill(&mut short_tape, 5, 13);
@@ -132,7 +134,7 @@ fn reports(link: Sender) {
 fn main() {
     let mut keys = [0u8; 96];
     let mut message = [0u8; 256];
-    let mut tape = [0u8; 38145];
+    let mut tape = [0u8; 39233];
     show::fill(&mut keys, 1, 11);
     show::fill(&mut message, 3, 7);
     show::fill(&mut tape, 5, 13);

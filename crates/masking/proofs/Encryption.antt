@@ -1,13 +1,13 @@
 -- BAKSHEESH on shares is a call of such stages: they make blocks of blocks, join to the plain cipher's rounds, show each key in its own
 -- way, and make of each share, from its lane alone, the next. Assumes nothing.
-use Rattle.prelude.proofs.{_≡_, refl, sym, ap, ap₂, _∙_, List, ℕ, zero, suc, _+_, _-_, _*_, arith}
+use Rattle.prelude.proofs.{_≡_, refl, sym, ap, ap₂, _∙_, List, ℕ, zero, suc, min, _+_, _-_, _*_, _<_, arith}
 use Rattle.blocks.specs.Bytes.{Block, _⊕_, part}
 use Rattle.blocks.proofs.ByBits.{rearranged-block, rearranged-twice, rearranged-same}
 use Rattle.baksheesh.specs.Baksheesh.{rounds, from, permBits, constant, rotated, round, after, encrypt}
 use Rattle.baksheesh.proofs.Steps.{constant-block}
 use Rattle.masking.specs.Shares.{Index, i₀, i₁, i₂, next, isFirst, Shares, Blocks, join, add, each, only, Reader, pairSize, masksAt}
 use Rattle.masking.specs.Stages.{state, call, masked, shownShares, lane, plainAfter}
-use Rattle.masking.specs.Call.{shareRound, laneRound, encryption, pairCount, callSize, plainEncryption}
+use Rattle.masking.specs.Call.{shareRound, laneRound, encryption, callSize, plainEncryption}
 use Rattle.masking.specs.{Sbox.sboxShares, OneTape.roundOnLane}
 use Rattle.masking.proofs.Shape.{Reads, add-blocks, only-blocks, StageBlocks}
 use Rattle.masking.proofs.Joins.{join-add, join-only, join-map, rearranged-linear, StageJoins, call-join}
@@ -48,7 +48,7 @@ unfolding plainAfter after
 plain-after key input zero = refl
 plain-after key input (suc n) = ap (round n (rotated (suc n) key)) (plain-after key input n)
 
-pub plain-encrypts : (key input : List ℕ) → plainAfter plainEncryption key input pairCount ≡ encrypt key input
+pub plain-encrypts : (key input : List ℕ) → plainAfter plainEncryption key input rounds ≡ encrypt key input
 unfolding encrypt
 plain-encrypts key input = plain-after key input rounds
 
@@ -63,37 +63,39 @@ rotated-again n k p = rearranged-twice _ _ (λ i. i) (λ i h. omega arith) (λ i
 
 pub encryption-turns : (n : ℕ) → Turn (encryption .shownKey n)
 encryption-turns n = record {
-  turn-injective = λ k l p q e. sym (rotated-again (suc n) k p) ∙ ap (rotated (127 * suc n)) e ∙ rotated-again (suc n) l q;
+  turn-injective = λ k l p q e.
+      let m : ℕ = min (suc n) rounds in sym (rotated-again m k p) ∙ ap (rotated (127 * m)) e ∙ rotated-again m l q;
 }
 
 -- ---- a round of a call needs no more than its lane
 
-module _ {key input : Shares} (M : Reader) (o n : ℕ) (p : Blocks key) (q : Blocks input) (h : Reads M (o + pairSize * n + pairSize)) where
+module _ {key input : Shares} (M : Reader) (o n : ℕ) (l : n < rounds) (p : Blocks key) (q : Blocks input) where
+  abbrev m : Shares
+  m = masked encryption key input M o n
+
   round-lane : (i : Index) → state encryption key input M o (suc n) i
-      ≡ laneRound n (isFirst i) (masked encryption key input M o n (next i)) (masked encryption key input M o n (next (next i)))
-      (shownShares encryption key input M o n i)
+      ≡ laneRound n (isFirst i) (m (next i)) (m (next (next i))) (shownShares encryption key input M o n i)
   unfolding state masked shownShares laneRound
-  round-lane i₀ = refl
-  round-lane i₁ = refl
-  round-lane i₂ = refl
+  round-lane i =
+      let own : suc n ≡ min (suc n) rounds = omega arith in
+      go i ∙ λ z. laneRound n (isFirst i) (m (next i)) (m (next (next i))) (rotated (own z) (key i))
+    where
+      go : (i : Index) → state encryption key input M o (suc n) i
+          ≡ laneRound n (isFirst i) (m (next i)) (m (next (next i))) (rotated (suc n) (key i))
+      go i₀ = refl
+      go i₁ = refl
+      go i₂ = refl
 
-  -- what the round makes of share i is made of lane i alone
-  pub state-lane : (i : Index) → state encryption key input M o (suc n) i ≡ roundOnLane n (isFirst i) (lane encryption key input M o n i)
-  state-lane i =
+  -- what the round makes of share i is made of lane i alone; with the next pair's mask it is what that pair's lanes show
+  pub masked-lane : Reads M (o + pairSize * n + pairSize) → (i : Index) → masked encryption key input M o (suc n) i
+      ≡ roundOnLane n (isFirst i) (lane encryption key input M o n i) ⊕ masksAt M (o + pairSize * suc n) i
+  unfolding masked
+  masked-lane h i =
       let W = encryption-blocks in
-      round-lane i
-      ∙ sym (λ z. laneRound n (isFirst i) (lane-next W M o n p q h i z) (lane-after W M o n p q h i z) (lane-key W M o n p q h i z))
+      ap (λ (s : List ℕ). s ⊕ masksAt M (o + pairSize * suc n) i)
+      (round-lane i
+      ∙ sym (λ z. laneRound n (isFirst i) (lane-next W M o n p q h i z) (lane-after W M o n p q h i z) (lane-key W M o n p q h i z)))
 
--- masked again, it stands in the next round's lanes
-pub lane-follows : {key input : Shares} (M : Reader) (o n : ℕ) → Blocks key → Blocks input → Reads M (o + pairSize * suc n + pairSize)
-    → (i : Index) → part 0 16 (lane encryption key input M o (suc n) i)
-    ≡ roundOnLane n (isFirst (next i)) (lane encryption key input M o n (next i)) ⊕ masksAt M (o + pairSize * suc n) (next i)
-unfolding masked
-lane-follows M o n p q h i =
-    lane-next encryption-blocks M o (suc n) p q h i
-    ∙ ap (λ (s : List ℕ). s ⊕ masksAt M (o + pairSize * suc n) (next i)) (state-lane M o n p q (λ a k. h a (omega arith)) (next i))
-
--- each output share of a call is the last round done on its lane alone
-pub call-lane : {key input : Shares} (M : Reader) (o : ℕ) → Blocks key → Blocks input → Reads M (o + callSize) → (i : Index)
-    → call encryption key input M o i ≡ roundOnLane (rounds - 1) (isFirst i) (lane encryption key input M o (rounds - 1) i)
-call-lane M o p q h i = state-lane M o (rounds - 1) p q (λ a k. h a (omega arith)) i
+  pub lane-follows : Reads M (o + pairSize * suc n + pairSize) → (i : Index) → part 0 16 (lane encryption key input M o (suc n) i)
+      ≡ roundOnLane n (isFirst (next i)) (lane encryption key input M o n (next i)) ⊕ masksAt M (o + pairSize * suc n) (next i)
+  lane-follows h i = lane-next encryption-blocks M o (suc n) p q h i ∙ masked-lane (λ a k. h a (omega arith)) (next i)

@@ -65,7 +65,7 @@ module _ {D : Stages} {P : PlainStages} (W : StageBlocks D) (J : StageJoins D P)
   unfolding masked
   unmasked n h = join-masksAt M (o + pairSize * n) (state-blocks W M o p q n (λ a k. h a (omega arith))) h
 
-  -- on entering stage n + 1
+  -- before pair n + 1
   pub state-join : (n : ℕ) → Reads M (o + pairSize * n) → join (state D key input M o n) ≡ plainAfter P (join key) (join input) n
   unfolding state plainAfter masked
   state-join zero h = J .start-join key input p q
@@ -74,13 +74,13 @@ module _ {D : Stages} {P : PlainStages} (W : StageBlocks D) (J : StageJoins D P)
       J .stage-join n key (masked D key input M o n) p (masked-blocks W M o p q n low)
       ∙ ap (P .stage n (join key)) (unmasked n low ∙ state-join n (λ a k. h a (omega arith)))
 
-  -- and just after its masks
+  -- and just after it
   pub masked-join : (n : ℕ) → Reads M (o + pairSize * n + pairSize)
       → join (masked D key input M o n) ≡ plainAfter P (join key) (join input) n
   masked-join n h = unmasked n h ∙ state-join n (λ a k. h a (omega arith))
 
-  pub call-join : Reads M (o + masksSize D) → join (call D key input M o) ≡ plainAfter P (join key) (join input) (D .pairs)
-  call-join = state-join (D .pairs)
+  pub call-join : Reads M (o + masksSize D) → join (call D key input M o) ≡ plainAfter P (join key) (join input) (D .count)
+  call-join h = masked-join (D .count) (λ a k. h a (omega arith))
 
   pub shown-join : (n : ℕ) → join (shownShares D key input M o n) ≡ D .shownKey n (join key)
   unfolding shownShares

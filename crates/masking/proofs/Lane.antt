@@ -27,7 +27,7 @@ module _ {a b c : List ℕ} (p : Block a) (q : Block b) (r : Block c) where
 pub shares-flat : (s : Shares) → Blocks s → sharesIn (flat s) ≡ s
 shares-flat s b = shares-same (first-part (b _) (b _) (b _)) (second-part (b _) (b _) (b _)) (third-part (b _) (b _) (b _))
 
--- ---- the lanes of stage n + 1 of a call
+-- ---- the lanes of pair n + 1 of a call
 
 module _ {D : Stages} (W : StageBlocks D) {key input : Shares} (M : Reader) (o n : ℕ) (p : Blocks key) (q : Blocks input)
     (h : Reads M (o + pairSize * n + pairSize)) where
@@ -58,7 +58,7 @@ module _ {D : Stages} (W : StageBlocks D) {key input : Shares} (M : Reader) (o n
   lane-twice i = lane-after i ∙ sym (lane-next (next i))
 
   module _ {P : PlainStages} (J : StageJoins D P) where
-    -- the three state shares XOR to the state on entering the stage, the three key shares to the key that it shows
+    -- the three state shares XOR to the state after n stages, the three key shares to the key that the pair shows
     pub states-join : join (λ i. part 0 16 (lane D key input M o n i)) ≡ plainAfter P (join key) (join input) n
     states-join = ap join (fun-ext lane-next) ∙ join-turn (masked D key input M o n) ∙ masked-join W J M o p q n h
 

@@ -1,4 +1,4 @@
--- Shared calls under a masked key: each stage is a probe, so exactly one tape shows the same lane. Assumes nothing.
+-- Shared calls under a masked key: each pair of masks is a probe, so exactly one tape shows the same lane. Assumes nothing.
 use Rattle.prelude.proofs.{_≡_, sym, ap, _∙_, List, ℕ, _+_, _*_, _≤_, arith, length}
 use Rattle.blocks.specs.Bytes.{Bytes}
 use Rattle.masking.specs.Shares.{Index, Shares, Blocks, add, Reader, at, pairSize, masksAt}
@@ -17,12 +17,12 @@ pub record MaskedCall (a o : ℕ) : Type 0 where
   pub input-blocks : (M : Reader) → Reads M o → Blocks (input M)
   pub input-causal : (M N : Reader) → Agree M N o → input M ≡ input N
 
--- lane i of stage n + 1
+-- lane i of pair n + 1
 abbrev pub laneAt : Stages → {a o : ℕ} → MaskedCall a o → ℕ → Reader → Index → List ℕ
 laneAt D {a} {o} C n M i = lane D (add (C .given) (masksAt M a)) (C .input M) M o n i
 
 module _ {D : Stages} (W : StageBlocks D) (T : (n : ℕ) → Turn (D .shownKey n)) {a o : ℕ} (low : a + pairSize ≤ o) where
-  -- stage n + 1
+  -- pair n + 1
   unfoldable pub probe : MaskedCall a o → (n : ℕ) → Probe a (o + pairSize * n)
   probe C n = record {
     given = C .given;

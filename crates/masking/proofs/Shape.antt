@@ -56,12 +56,12 @@ module _ {D : Stages} (W : StageBlocks D) {key input : Shares} (M : Reader) (o :
       W .stage-blocks n p
       (add-blocks (state-blocks n (λ a k. h a (omega arith))) (masksAt-blocks M (o + pairSize * n) (λ a k. h a (omega arith))))
 
-  pub call-blocks : Reads M (o + masksSize D) → Blocks (call D key input M o)
-  call-blocks = state-blocks (D .pairs)
-
   pub masked-blocks : (n : ℕ) → Reads M (o + pairSize * n + pairSize) → Blocks (masked D key input M o n)
   unfolding masked
   masked-blocks n h = add-blocks (state-blocks n (λ a k. h a (omega arith))) (masksAt-blocks M (o + pairSize * n) h)
+
+  pub call-blocks : Reads M (o + masksSize D) → Blocks (call D key input M o)
+  call-blocks h = masked-blocks (D .count) (λ a k. h a (omega arith))
 
   pub shown-blocks : (n : ℕ) → Blocks (shownShares D key input M o n)
   unfolding shownShares

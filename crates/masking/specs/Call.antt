@@ -1,12 +1,12 @@
 -- BAKSHEESH on three shares. Assumes nothing.
 use mathlib.Core.Bool.{Bool, cond}
 use mathlib.Core.List.{List}
-use Prim.Native.Nat.{ℕ, suc}
+use Prim.Native.Nat.{ℕ, suc, min}
 use Rattle.blocks.specs.Bytes.{_⊕_, zeros}
 use Rattle.baksheesh.specs.Baksheesh.{rounds, permBits, constant, rotated, round}
 use Rattle.masking.specs.Shares.{Shares, add, each, only}
 use Rattle.masking.specs.Sbox.{sboxShare, sboxShares}
-use Rattle.masking.specs.Stages.{Stages, PlainStages, masksSize}
+use Rattle.masking.specs.Stages.{Stages, PlainStages, pairs, masksSize}
 
 -- what round n + 1 makes of three masked shares under the round key's shares: the shared S-box, the bit move on each share, the
 -- constants into share 0, the key's shares into theirs
@@ -17,18 +17,19 @@ shareRound n s k = add (add (each permBits (sboxShares s)) (only (constant n))) 
 unfoldable pub laneRound : ℕ → Bool → List ℕ → List ℕ → List ℕ → List ℕ
 laneRound n first a b k = (permBits (sboxShare first a b) ⊕ cond first (constant n) zeros) ⊕ k
 
--- the key's shares go into the input's; each stage is a round, and shows the key that it adds
+-- the key's shares go into the input's; each stage is a round. A pair shows the key of the round behind it, the last one that of the
+-- last round
 abbrev pub encryption : Stages
 encryption = record {
   start = λ key input. add input key;
   stage = λ n key s. shareRound n s (each (rotated (suc n)) key);
-  shownKey = λ n. rotated (suc n);
-  pairs = rounds;
+  count = rounds;
+  shownKey = λ n. rotated (min (suc n) rounds);
 }
 
 -- the pairs of masks of a call, and their bytes
 abbrev pub pairCount : ℕ
-pairCount = encryption .pairs
+pairCount = pairs encryption
 
 abbrev pub callSize : ℕ
 callSize = masksSize encryption

@@ -3,17 +3,21 @@ use mathlib.Core.List.{List, _++_}
 use Prim.Native.Nat.{ℕ, zero, suc, _+_, _*_}
 use Rattle.masking.specs.Shares.{Index, next, Shares, add, each, Reader, pairSize, masksAt}
 
--- how a call goes: the shares that it starts from, of those of key and input; what stage n + 1 makes, under the key's shares, of the
--- masked ones; how it shows a share of the key; and how many pairs of masks are drawn, one for each stage
+-- how a call goes: the shares that it starts from, of those of key and input; what stage n + 1 makes, under the key's shares, of masked
+-- ones; how many stages there are; and how a share of the key is shown with pair n + 1 of the masks. A pair goes into the shares before
+-- each stage, and one into the output
 pub record Stages : Type 0 where
   pub start : Shares → Shares → Shares
   pub stage : ℕ → Shares → Shares → Shares
+  pub count : ℕ
   pub shownKey : ℕ → List ℕ → List ℕ
-  pub pairs : ℕ
 
--- the bytes of a call's masks
+-- the pairs of masks of a call, and their bytes
+abbrev pub pairs : Stages → ℕ
+pairs D = suc (D .count)
+
 abbrev pub masksSize : Stages → ℕ
-masksSize D = pairSize * D .pairs
+masksSize D = pairSize * pairs D
 
 -- a call of key shares and input shares, whose masks begin at o on the tape
 module _ (D : Stages) (key input : Shares) (M : Reader) (o : ℕ) where
@@ -22,10 +26,7 @@ module _ (D : Stages) (key input : Shares) (M : Reader) (o : ℕ) where
   state zero = D .start key input
   state (suc n) = D .stage n key (add (state n) (masksAt M (o + pairSize * n)))
 
-  abbrev pub call : Shares
-  call = state (D .pairs)
-
-  -- stage n + 1: the shares just after its masks, and the shares of the key that it shows
+  -- pair n + 1: the shares just after its masks, and the shares of the key that it shows
   unfoldable pub masked : ℕ → Shares
   masked n = add (state n) (masksAt M (o + pairSize * n))
 
@@ -35,6 +36,10 @@ module _ (D : Stages) (key input : Shares) (M : Reader) (o : ℕ) where
   -- its lane i: state shares i + 1 and i + 2, then key share i
   unfoldable pub lane : ℕ → Index → List ℕ
   lane n i = masked n (next i) ++ (masked n (next (next i)) ++ shownShares n i)
+
+  -- the output: the shares after all stages, with the last pair
+  abbrev pub call : Shares
+  call = masked (D .count)
 
 -- ---- the plain cipher's steps that stages join to
 

@@ -11,6 +11,6 @@ use Rattle.inputs.specs.Inputs.{outAt}
 abbrev pub ciphertextOf : List ℕ → List ℕ → List ℕ
 ciphertextOf m o = Ctr.ctr (λ b. b) (λ j. join (outAt j o)) m
 
--- lane i of what a stage shows
+-- lane i of what a pair of masks shows
 abbrev pub laneIn : Seen → Index → List ℕ
 laneIn s i = sharesOf (s .state) (next i) ++ (sharesOf (s .state) (next (next i)) ++ sharesOf (s .key) i)

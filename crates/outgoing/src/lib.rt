@@ -69,7 +69,7 @@ pub fn put_record(
 
 // ---- a lane
 
-// Lane i of what a stage shows: state shares i + 1 and i + 2, then key share i.
+// Lane i of what a pair of masks shows: state shares i + 1 and i + 2, then key share i.
 pub fn lane_of(seen: Seen, i: u32) -> [u8; 48]
     requires { ⌜ i < 3 ⌝ }
     ensures { λ r. ⌜ r ≡ laneIn seen (indexOf i) ⌝ }

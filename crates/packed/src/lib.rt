@@ -1,4 +1,5 @@
 // BAKSHEESH on a block in packed form, and on its bytes.
+use baksheesh::ROUNDS;
 use gates::inv_sub_cells;
 use gates::sub_cells;
 use inverse::inv_perm_bits;
@@ -6,7 +7,6 @@ use inverse::rotate_all;
 use inverse::rotate_back;
 use packing::pack;
 use packing::unpack;
-use words::steps::ROUNDS;
 use words::steps::add;
 use words::steps::add_constants;
 use words::steps::perm_bits;

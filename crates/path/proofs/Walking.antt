@@ -24,7 +24,7 @@ zero-shares = shares-same zero-words refl refl
 -- the next call can be done
 pub walked-ready : (x : Sender) (m t : List ℕ) (a : Watch) (k : ℕ) (w : Walk) → Ready x m t a → Walked (sealingCalls x m) (at t) a k w
     → k < callCount (blockCount (length m))
-    → (1 ≤ a .stage) × (a .stage ≤ pairCount) × (w .used + callSize ≤ length t) × (w .calls < 2 ^ 32)
+    → (1 ≤ a .pair) × (a .pair ≤ pairCount) × (w .used + callSize ≤ length t) × (w .calls < 2 ^ 32)
 walked-ready x m t a k w R W h =
     (R .low, R .high, omega (arith, W .used, R .long), omega (arith, W .calls, R .short))
 

@@ -17,13 +17,13 @@ use Rattle.calls.specs.Numbered.{callCount, tapeNeed}
 use Rattle.calls.specs.Sealed.{sealingCalls, ctrOut, tagShares, chain}
 use Rattle.inputs.specs.Inputs.{outsSize, outAt}
 
--- sealing m on x with the tape t can be done: a number is left, the message is short enough, the tape long enough, the stage is one
+-- sealing m on x with the tape t can be done: a number is left, the message is short enough, the tape long enough, the pair is one
 pub record Ready (x : Sender) (m t : List ℕ) (a : Watch) : Type 0 where
   pub left : x .last < greatest standard
   pub short : length m ≤ longest
   pub long : tapeNeed (length m) ≤ length t
-  pub low : 1 ≤ a .stage
-  pub high : a .stage ≤ pairCount
+  pub low : 1 ≤ a .pair
+  pub high : a .pair ≤ pairCount
 
 -- the output shares of CTR's first n calls stand in o
 pub record OutsHold (x : Sender) (m : List ℕ) (M : Reader) (n : ℕ) (o : List ℕ) : Type 0 where

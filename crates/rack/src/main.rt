@@ -39,27 +39,27 @@ impl Lengths {
 
 // Those of turn i.
 fn asked(i: usize) -> Lengths
-    ensures { λ r. ⌜ (r .message ≤ 257) × (r .tape ≤ 38144) × (r .out ≤ 280) ⌝ }
+    ensures { λ r. ⌜ (r .message ≤ 257) × (r .tape ≤ 39232) × (r .out ≤ 280) ⌝ }
 {
     match i {
-        0 => Lengths::of(0, 2304, 24),
-        1 => Lengths::of(0, 2303, 24),
-        2 => Lengths::of(1, 4544, 24),
-        3 => Lengths::of(16, 4544, 40),
-        4 => Lengths::of(257, 38144, 280),
-        5 => Lengths::of(17, 6783, 41),
-        6 => Lengths::of(17, 6784, 40),
-        7 => Lengths::of(17, 6784, 41),
+        0 => Lengths::of(0, 2368, 24),
+        1 => Lengths::of(0, 2367, 24),
+        2 => Lengths::of(1, 4672, 24),
+        3 => Lengths::of(16, 4672, 40),
+        4 => Lengths::of(257, 39232, 280),
+        5 => Lengths::of(17, 6975, 41),
+        6 => Lengths::of(17, 6976, 40),
+        7 => Lengths::of(17, 6976, 41),
         8 => Lengths::of(257, 0, 0),
-        9 => Lengths::of(20, 38144, 280),
-        10 => Lengths::of(256, 38144, 279),
-        _ => Lengths::of(256, 38144, 280),
+        9 => Lengths::of(20, 39232, 280),
+        10 => Lengths::of(256, 39232, 279),
+        _ => Lengths::of(256, 39232, 280),
     }
 }
 
 // Turns on a fresh link and, once it is keyed, one after the other.
 fn turns(keys: &[u8], message: &[u8], tape: &[u8])
-    requires { ⌜ (257 ≤ length (now message)) × (38144 ≤ length (now tape)) ⌝ }
+    requires { ⌜ (257 ≤ length (now message)) × (39232 ≤ length (now tape)) ⌝ }
 {
     let mut out = [0u8; 280];
     let fresh = turn(Sender::fresh(), message, tape, &mut out);
@@ -78,7 +78,7 @@ fn turns(keys: &[u8], message: &[u8], tape: &[u8])
 fn main() {
     let mut keys = [0u8; 96];
     let mut message = [0u8; 257];
-    let mut tape = [0u8; 38144];
+    let mut tape = [0u8; 39232];
     show::fill(&mut keys, 11, 37);
     show::fill(&mut message, 3, 7);
     show::fill(&mut tape, 5, 13);

@@ -10,7 +10,7 @@ use Rattle.outgoing.specs.Outgoing.{laneIn}
 
 module _ (x : Sender) (m : List ℕ) (M : Reader) (a : Watch) (outs : List ℕ) (w : Walk) (A : AllDone x m M a outs w) where
   pub lane-shown : (i : ℕ) → 1 ≤ a .call → a .call ≤ callCount (blockCount (length m))
-      → laneIn (w .seen) (indexOf i) ≡ laneOf encryption (sealingCalls x m) M (a .call) (a .stage) (indexOf i)
+      → laneIn (w .seen) (indexOf i) ≡ laneOf encryption (sealingCalls x m) M (a .call) (a .pair) (indexOf i)
   unfolding laneOf lane
   lane-shown i l h =
       let s = A .walked .saw l h in

@@ -90,7 +90,7 @@ pub fn report(
     let mut outs = [0u8; 768];
     let watch = Watch {
         call: call as usize,
-        stage: round as usize,
+        pair: round as usize,
     };
     let w = run(link, message, tape, watch, &mut outs);
     let seen = w.seen;

@@ -113,11 +113,11 @@ module _ {D : Stages} {R : Run} (L : Placed D R) where
 
     module _ {P : PlainStages} (J : StageJoins D P) (plain : ℕ → List ℕ)
         (joins : (k : ℕ) → 1 ≤ k → k ≤ R .count → (f : ℕ → Shares) → ((j : ℕ) → Blocks (f j))
-        → ((j : ℕ) → 1 ≤ j → j < k → join (f j) ≡ plainAfter P (join (R .given j)) (plain j) (D .pairs)) → join (R .input k f)
+        → ((j : ℕ) → 1 ≤ j → j < k → join (f j) ≡ plainAfter P (join (R .given j)) (plain j) (D .count)) → join (R .input k f)
         ≡ plain k) where
       -- the plain output of call k
       abbrev plainOut : ℕ → List ℕ
-      plainOut k = plainAfter P (join (R .given k)) (plain k) (D .pairs)
+      plainOut k = plainAfter P (join (R .given k)) (plain k) (D .count)
 
       pub key-join : (k o : ℕ) → R .begins k ≤ o → Reads M o → join (keyShares D R M k) ≡ join (R .given k)
       unfolding keyShares
@@ -130,7 +130,7 @@ module _ {D : Stages} {R : Run} (L : Placed D R) where
           call-join W J M (R .begins (suc k)) (key-blocks (suc k) o (omega arith) h) (B .input-blocks (suc k) f fb)
           (λ p q. h p (omega arith))
           ∙ (λ z. plainAfter P (key-join (suc k) o (omega arith) h z)
-          (joins (suc k) (omega arith) n f fb (λ j j₁ q. fj j j₁ (omega arith)) z) (D .pairs))
+          (joins (suc k) (omega arith) n f fb (λ j j₁ q. fj j j₁ (omega arith)) z) (D .count))
 
       outputs-join : (o : ℕ) → Reads M o → (k : ℕ) → k ≤ R .count → (1 ≤ k → R .begins k + masksSize D ≤ o)
           → (j : ℕ) → 1 ≤ j → j ≤ k → join (outputs D R M k j) ≡ plainOut j
@@ -155,9 +155,9 @@ module _ {D : Stages} {R : Run} (L : Placed D R) where
       unfolding outputOf
       output-join k l n h =
           call-join W J M (R .begins k) (key-blocks k _ (omega arith) h) (input-blocks k _ l (omega arith) h) h
-          ∙ (λ z. plainAfter P (key-join k _ (omega arith) h z) (input-join k _ l n (omega arith) h z) (D .pairs))
+          ∙ (λ z. plainAfter P (key-join k _ (omega arith) h z) (input-join k _ l n (omega arith) h z) (D .count))
 
-      -- ---- the lanes of stage r of call k: the state on entering it, and the key that it shows
+      -- ---- the lanes of pair r of call k: the state there, and the key that it shows
 
       module _ (k r : ℕ) (l : 1 ≤ k) (n : k ≤ R .count) (h : Reads M (R .begins k + pairSize * (r - 1) + pairSize)) where
         pub states-join : join (λ i. part 0 16 (laneOf D R M k r i)) ≡ plainAfter P (join (R .given k)) (plain k) (r - 1)

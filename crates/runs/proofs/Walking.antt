@@ -47,9 +47,9 @@ module _ (R : Run) (M : Reader) (a : Watch) where
             let s = S .hit (ap (λ (z : ℕ). z + 1) (W .calls) ∙ sym number ∙ d) in
             record {
               state = s .state ∙ λ i. masked encryption ((ek ∙ ap (keyShares encryption R M) d) i)
-                  ((ei ∙ ap (inputOf encryption R M) d) i) M ((there ∙ ap (R .begins) d) i) (a .stage - 1);
+                  ((ei ∙ ap (inputOf encryption R M) d) i) M ((there ∙ ap (R .begins) d) i) (a .pair - 1);
               key = s .key ∙ λ i. shownShares encryption ((ek ∙ ap (keyShares encryption R M) d) i)
-                  ((ei ∙ ap (inputOf encryption R M) d) i) M ((there ∙ ap (R .begins) d) i) (a .stage - 1);
+                  ((ei ∙ ap (inputOf encryption R M) d) i) M ((there ∙ ap (R .begins) d) i) (a .pair - 1);
             }
         | no d ↦ rw (S .miss (λ f. d (omega (arith, W .calls)))) (W .saw l (omega arith))
       ];

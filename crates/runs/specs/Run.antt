@@ -39,6 +39,6 @@ module _ (D : Stages) (R : Run) (M : Reader) where
   unfoldable pub outputOf : ℕ → Shares
   outputOf k = call D (keyShares k) (inputOf k) M (R .begins k)
 
-  -- lane i of stage r of call k, stages numbered from 1
+  -- lane i of pair r of call k, pairs numbered from 1
   unfoldable pub laneOf : ℕ → ℕ → Index → List ℕ
   laneOf k r i = lane D (keyShares k) (inputOf k) M (R .begins k) (r - 1) i

@@ -1,4 +1,4 @@
--- The calls of a run one after the other, as code takes them, with one stage of one call watched. Assumes nothing.
+-- The calls of a run one after the other, as code takes them, with one pair of masks of one call watched. Assumes nothing.
 use mathlib.Core.Path.{_≡_}
 use mathlib.Core.Bool.{Bool, true, false}
 use Prim.Native.Nat.{ℕ, _+_, _-_, _≤_}
@@ -12,12 +12,12 @@ use Rattle.runs.specs.declared.Seen.{Seen}
 use Rattle.runs.specs.declared.Walk.{Walk}
 use Rattle.runs.specs.Run.{Run, keyShares, inputOf}
 
--- what the watched stage showed: now, or before
+-- what the watched pair showed: now, or before
 abbrev pub looked : Bool → Triple → Triple → Seen → Seen
 looked true s k old = record { state = s; key = k }
 looked false s k old = old
 
--- s is what the stage numbered n shows of a call of key shares k and input shares x, whose masks begin at o
+-- s is what the pair numbered n shows of a call of key shares k and input shares x, whose masks begin at o
 pub record Shown (k x : Shares) (M : Reader) (o n : ℕ) (s : Seen) : Type 0 where
   pub state : sharesOf (s .state) ≡ masked encryption k x M o (n - 1)
   pub key : sharesOf (s .key) ≡ shownShares encryption k x M o (n - 1)
@@ -27,7 +27,7 @@ pub record Stepped (k x : Shares) (M : Reader) (a : Watch) (w r : Walk) : Type 0
   pub out : sharesOf (r .out) ≡ call encryption k x M (w .used)
   pub calls : r .calls ≡ w .calls + 1
   pub used : r .used ≡ w .used + callSize
-  pub hit : w .calls + 1 ≡ a .call → Shown k x M (w .used) (a .stage) (r .seen)
+  pub hit : w .calls + 1 ≡ a .call → Shown k x M (w .used) (a .pair) (r .seen)
   pub miss : (w .calls + 1 ≡ a .call → ⊥) → r .seen ≡ w .seen
 
 -- w stands behind the first k calls of a run; what is watched, if it was passed, is seen
@@ -35,4 +35,4 @@ pub record Walked (R : Run) (M : Reader) (a : Watch) (k : ℕ) (w : Walk) : Type
   pub calls : w .calls ≡ k
   pub used : w .used ≡ R .begins (k + 1)
   pub saw : 1 ≤ a .call → a .call ≤ k
-      → Shown (keyShares encryption R M (a .call)) (inputOf encryption R M (a .call)) M (R .begins (a .call)) (a .stage) (w .seen)
+      → Shown (keyShares encryption R M (a .call)) (inputOf encryption R M (a .call)) M (R .begins (a .call)) (a .pair) (w .seen)

@@ -1,4 +1,5 @@
-// The calls of a run on shares, one after the other; one stage of one call is watched.
+// The calls of a run on shares, one after the other; one pair of masks of one call is watched.
+use shares::Masked;
 use shares::Triple;
 use shares::pack_shares;
 ghost use mathlib.Core.Path.{_≡_};
@@ -10,13 +11,13 @@ ghost use Rattle.shares.specs.Packed.{sharesOf};
 ghost use Rattle.runs.specs.Walk.{looked, Stepped};
 ghost use Rattle.runs.specs.Lanes.{within};
 
-// The call and its stage to be shown, numbered from 1.
+// The call and its pair of masks to be shown, numbered from 1.
 pub struct Watch {
     pub call: usize,
-    pub stage: usize,
+    pub pair: usize,
 }
 
-// Whether the number of a call, a stage or a lane is one of `low` to `high`.
+// Whether the number of a call, a pair or a lane is one of `low` to `high`.
 pub fn within(low: usize, high: usize, number: u32) -> bool
     ensures { λ r. ⌜ r ≡ within low high number ⌝ }
 {
@@ -24,14 +25,14 @@ pub fn within(low: usize, high: usize, number: u32) -> bool
     low <= n && n <= high
 }
 
-// What a stage shows: the state's shares just after its masks, and the key's shares.
+// What a pair shows: the state's shares just after it, and the key's shares.
 pub struct Seen {
     pub state: Triple,
     pub key: Triple,
 }
 
 // Where the calls have led: the last call's output, how many calls are done, the tape bytes read, and what the watched
-// stage showed once it is passed.
+// pair showed once it is passed.
 pub struct Walk {
     pub out: Triple,
     pub calls: usize,
@@ -39,7 +40,7 @@ pub struct Walk {
     pub seen: Seen,
 }
 
-// What the watched stage showed: now, or before.
+// What the watched pair showed: now, or before.
 fn look(here: bool, state: Triple, key: Triple, old: Seen) -> Seen
     ensures { λ r. ⌜ r ≡ looked here state key old ⌝ }
 {
@@ -51,11 +52,11 @@ fn look(here: bool, state: Triple, key: Triple, old: Seen) -> Seen
 
 // The next call.
 pub fn step(w: Walk, key: Triple, input: Triple, tape: &[u8], watch: Watch) -> Walk
-    requires { ⌜ (1 ≤ watch .stage) × (watch .stage ≤ pairCount) × (w .used + callSize ≤ length (now tape)) × (w .calls < 2 ^ 32) ⌝ }
+    requires { ⌜ (1 ≤ watch .pair) × (watch .pair ≤ pairCount) × (w .used + callSize ≤ length (now tape)) × (w .calls < 2 ^ 32) ⌝ }
     ensures { λ r. ⌜ Stepped (sharesOf key) (sharesOf input) (at (now (tape .entry))) watch w r ⌝ }
 {
-    let stage = watch.stage;
-    let called = shares::call(key, input, tape, w.used, stage);
+    let pair = watch.pair;
+    let called = shares::call(key, input, tape, w.used, pair);
     let out = called.out;
     let state = called.state;
     let shown = called.key;
@@ -70,24 +71,11 @@ pub fn step(w: Walk, key: Triple, input: Triple, tape: &[u8], watch: Watch) -> W
     }
 }
 
-// A key's shares, masked, and the count of tape bytes read with the masks.
-pub struct Masked {
-    pub key: Triple,
-    pub used: usize,
-}
-
 // Key shares with the next pair of masks: c, d and c XOR d.
 pub fn mask_key(key: [u8; 48], tape: &[u8], used: usize) -> Masked
     requires { ⌜ used + pairSize ≤ length (now tape) ⌝ }
-    ensures keyed { λ r. ⌜ sharesOf (r .key) ≡ addShares (sharesIn key) (masksAt (at (now (tape .entry))) used) ⌝ }
+    ensures keyed { λ r. ⌜ sharesOf (r .shares) ≡ addShares (sharesIn key) (masksAt (at (now (tape .entry))) used) ⌝ }
     ensures counted { λ r. ⌜ r .used ≡ used + pairSize ⌝ }
 {
-    let first = shares::draw(tape, used);
-    let second = shares::draw(tape, first.used);
-    let c = first.mask;
-    let d = second.mask;
-    Masked {
-        key: shares::mask(pack_shares(key), c, d),
-        used: second.used,
-    }
+    shares::mask(pack_shares(key), tape, used)
 }

@@ -1,4 +1,5 @@
 // Round keys and constants on the 16 bytes of a block.
+use baksheesh::ROUNDS;
 ghost use mathlib.Core.Path.{_≡_};
 ghost use Prim.Native.Nat.{_%_, _<_};
 ghost use Rattle.blocks.specs.Bytes.{_⊕_};
@@ -14,7 +15,7 @@ pub fn add(s: [u8; 16], t: [u8; 16]) -> [u8; 16]
     r
 }
 
-const CONSTANTS: [u8; 35] = *b"\
+const CONSTANTS: [u8; ROUNDS] = *b"\
     \x02\x21\x10\x09\x24\x13\x28\x35\x1a\x0d\x26\x33\x38\x3d\x3e\x1f\x0e\x07\
     \x22\x31\x18\x2d\x36\x3b\x1c\x2f\x16\x2b\x14\x0b\x04\x03\x20\x11\x08";
 

@@ -85,7 +85,7 @@ pub fn seal(link: Sender, message: &[u8], tape: &[u8], out: &mut [u8]) -> Sealin
         return refused(link, SealAnswer::ShortOutput);
     }
     let mut outs = [0u8; 768];
-    let watch = Watch { call: 1, stage: 1 };
+    let watch = Watch { call: 1, pair: 1 };
     let w = run(link, message, tape, watch, &mut outs);
     let tag = w.out;
     let shares = unpack_shares(tag);

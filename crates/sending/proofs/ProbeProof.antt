@@ -1,13 +1,14 @@
 -- Probe-proof at the calls: the three statements on links in their bytes, with the tag's shares and the tape count out of the second slice.
 -- Assumes nothing.
-use Rattle.prelude.proofs.{_≡_, sym, ap, _∙_, List, _++_, append-assoc, ℕ, _-_, _*_, _≤_, _<_, arith, length, take, take-at, drop-at}
-use Rattle.blocks.specs.Bytes.{bigEndian, part, put, blockCount}
+use Rattle.prelude.proofs.{_≡_, sym, ap, _∙_, List, _++_, append-assoc, ℕ, _+_, _-_, _*_, _%_, _≤_, _<_, arith, length, take, take-at, drop-at}
+use Rattle.blocks.specs.Bytes.{_⊕_, bigEndian, part, put, blockCount}
 use Rattle.blocks.proofs.{Numbers.bigEndian-length, Parts.part-take, Parts.put-start}
 use Rattle.answers.proofs.First.{if-done}
 use Rattle.baksheesh.specs.Baksheesh.{rounds}
-use Rattle.masking.specs.Shares.{isFirst, flat, at}
+use Rattle.masking.specs.Shares.{isFirst, flat, at, masksAt}
 use Rattle.masking.specs.{Call.pairCount, OneTape.ExactlyOne, OneTape.roundOnLane}
-use Rattle.calls.specs.{Numbered.callCount, Numbered.tapeNeed, Sealed.tagShares, Entry.indexOf, Demand.SameLane, Demand.Joined}
+use Rattle.calls.specs.{Numbered.callCount, Numbered.tapeNeed, Sealed.tagShares, Entry.indexOf, Entry.sealShares}
+use Rattle.calls.specs.Demand.{masksOf, SameLane, Joined, OutputJoined}
 use Rattle.calls.proofs.Lanes.{returned, tag-size}
 use Rattle.calls.proofs.ProbeProof as Value
 use Rattle.sending.specs.{Stored.senderIn, Calls.countSize, Calls.sharesSize, Calls.sharesOutput}
@@ -49,10 +50,14 @@ stored-fits-every-key S T e k r i k₁ kₙ r₁ rₙ l = record {
       same = H .same;
     }
 
--- the three lanes of any round of any call join to the plain cipher's state and key
+-- the three lanes of any round of any call join to the plain cipher's state and key; those of round 36 to its output
 pub stored-lanes-join : (S : StoredSealing) (k r : ℕ) → 1 ≤ k → k ≤ callCount (blockCount (length (S .message))) → 1 ≤ r → r ≤ pairCount
     → Joined (senderIn (S .link)) (S .message) (S .tape) k r
 stored-lanes-join S = Value.lanes-join (said S)
+
+pub stored-output-lanes-join : (S : StoredSealing) (k : ℕ) → 1 ≤ k → k ≤ callCount (blockCount (length (S .message)))
+    → OutputJoined (senderIn (S .link)) (S .message) (S .tape) k
+stored-output-lanes-join S = Value.output-lanes-join (said S)
 
 -- ---- the second slice
 
@@ -69,16 +74,28 @@ module _ (S : StoredSealing) where
   size : length shares ≡ 48
   size = tag-size (said S)
 
--- of the second slice's 52 bytes, each 16 are round 35 done on the report's 48 bytes of their lane of the last call, and the last four
--- the tape bytes read
-pub stored-tag-shares : (S : StoredSealing) (i : ℕ) → i < 3
-    → part (16 * i) 16 (sharesOutput (S .link) (S .message) (S .tape) (S .out) (S .shares))
-    ≡ roundOnLane (rounds - 1) (isFirst (indexOf i)) (shownWith S (S .tape) (callCount (blockCount (length (S .message)))) rounds i)
-stored-tag-shares S i l =
-    ap (part (16 * i) 16) (written S ∙ put-start _ (S .shares) ∙ append-assoc (shares S) (count S) _)
-    ∙ sym (part-take (16 * i) 16 48 (shares S ++ _) (omega arith))
-    ∙ ap (part (16 * i) 16) (take-at (shares S) _ 48 (size S) ∙ if-done (returned (said S)) (shares S) _)
-    ∙ Value.tag-shares (said S) i l
+  share : (i : ℕ) → i < 3 → part (16 * i) 16 (sharesOutput (S .link) (S .message) (S .tape) (S .out) (S .shares))
+      ≡ part (16 * i) 16 (sealShares (senderIn (S .link)) (S .message) (S .tape) (length (S .out)))
+  share i l =
+      ap (part (16 * i) 16) (written ∙ put-start _ (S .shares) ∙ append-assoc shares count _)
+      ∙ sym (part-take (16 * i) 16 48 (shares ++ _) (omega arith))
+      ∙ ap (part (16 * i) 16) (take-at shares _ 48 size ∙ if-done (returned (said S)) shares _)
+
+-- of the second slice's 52 bytes, each 16 are round 35 done on the report's 48 bytes of their lane of the last call, XORed with their mask
+-- of that call's last pair; they are, two by two, the state shares of round 36's lanes; and the last four are the tape bytes read
+pub stored-tag-shares : (S : StoredSealing) (i : ℕ) → i < 3 → let k = callCount (blockCount (length (S .message))) in
+    part (16 * i) 16 (sharesOutput (S .link) (S .message) (S .tape) (S .out) (S .shares))
+    ≡ roundOnLane (rounds - 1) (isFirst (indexOf i)) (shownWith S (S .tape) k rounds i)
+    ⊕ masksAt (at (S .tape)) (masksOf k pairCount) (indexOf i)
+stored-tag-shares S i l = share S i l ∙ Value.tag-shares (said S) i l
+
+pub stored-tag-shares-shown : (S : StoredSealing) (i : ℕ) → i < 3
+    → let s = shownWith S (S .tape) (callCount (blockCount (length (S .message)))) pairCount i in
+    let tag = sharesOutput (S .link) (S .message) (S .tape) (S .out) (S .shares) in
+    (part 0 16 s ≡ part (16 * ((i + 1) % 3)) 16 tag) × (part 16 16 s ≡ part (16 * ((i + 2) % 3)) 16 tag)
+stored-tag-shares-shown S i l =
+    let h = Value.tag-shares-shown (said S) i l in
+    (h .0 ∙ sym (share S ((i + 1) % 3) (omega arith)), h .1 ∙ sym (share S ((i + 2) % 3) (omega arith)))
 
 pub stored-count : (S : StoredSealing)
     → part 48 countSize (sharesOutput (S .link) (S .message) (S .tape) (S .out) (S .shares))

@@ -1,11 +1,12 @@
 -- Rounds on packed shares, one after the other, and their place in a call. Assumes nothing.
-use Rattle.prelude.proofs.{_≡_, refl, sym, ap, _∙_, fun-ext, List, ℕ, zero, suc, _+_, _-_, _*_, _≤_, add-suc, arith}
-use Rattle.baksheesh.specs.Baksheesh.{rotated}
+use Rattle.prelude.proofs.{_≡_, refl, sym, ap, _∙_, fun-ext, Bool, true, false, not, cond, ℕ, zero, suc, min, _+_, _-_, _*_, _≤_, _<_}
+use Rattle.prelude.proofs.{arith, T, ltb, ltb→lt, nltb→le}
+use Rattle.baksheesh.specs.Baksheesh.{rounds, rotated}
 use Rattle.baksheesh.proofs.Steps.{rotated-zero, rotated-suc}
 use Rattle.words.proofs.Words.{unpacked-block}
 use Rattle.blocks.proofs.ByBits.{rearranged-twice}
-use Rattle.shares.specs.{declared.Triple.Triple, Packed.sharesOf, Packed.onward, Packed.met}
-use Rattle.masking.specs.Shares.{i₀, i₁, i₂, Shares, Blocks, add, each, spread, Reader, pairSize, masksAt}
+use Rattle.shares.specs.{declared.Triple.Triple, Packed.sharesOf, Packed.onward}
+use Rattle.masking.specs.Shares.{i₀, i₁, i₂, Shares, Blocks, add, each, Reader, pairSize, masksAt}
 use Rattle.masking.specs.Stages.{state, call, masked, shownShares}
 use Rattle.masking.specs.Call.{shareRound, encryption, pairCount}
 
@@ -32,71 +33,72 @@ module _ (M : Reader) (o n : ℕ) (s k : Shares) where
   unfolding onward
   onward-none = refl
 
-  pub met-none : met M o n s k 0 ≡ s
-  unfolding met
-  met-none = refl
-
-  pub onward-more : (c r : ℕ) (t m l l′ t′ : Shares) (u v : List ℕ) → t ≡ onward M o n s k c → l ≡ each (rotated c) k
-      → u ≡ M (o + pairSize * c) → v ≡ M (o + pairSize * c + 16) → m ≡ add t (spread u v) → l′ ≡ each (rotated 1) l → r ≡ n + c
-      → t′ ≡ shareRound r m l′
-      → (m ≡ met M o n s k (suc c)) × (t′ ≡ onward M o n s k (suc c)) × (l′ ≡ each (rotated (suc c)) k)
-  unfolding onward met
-  onward-more c r t m l l′ t′ u v et el eu ev em el′ er et′ =
+  pub onward-more : (c r p : ℕ) (t m l l′ t′ : Shares) → t ≡ onward M o n s k c → l ≡ each (rotated c) k → l′ ≡ each (rotated 1) l
+      → r ≡ n + c → t′ ≡ shareRound r t l′ → p ≡ o + pairSize * c → m ≡ add t′ (masksAt M p)
+      → (m ≡ onward M o n s k (suc c)) × (l′ ≡ each (rotated (suc c)) k)
+  unfolding onward
+  onward-more c r p t m l l′ t′ et el el′ er et′ ep em =
       let turned : l′ ≡ each (rotated (suc c)) k = el′ ∙ ap (each (rotated 1)) el ∙ turned-more c k in
-      let entered : m ≡ add (onward M o n s k c) (masksAt M (o + pairSize * c)) = em ∙ λ i. add (et i) (spread (eu i) (ev i)) in
-      (entered, et′ ∙ λ i. shareRound (er i) (entered i) (turned i), turned)
+      (em ∙ λ i. add ((et′ ∙ λ j. shareRound (er j) (et j) (turned j)) i) (masksAt M (ep i)), turned)
 
 -- ---- in a call
 
 module _ (key input : Shares) (M : Reader) (o : ℕ) where
-  pub onward-state : (n c : ℕ)
-      → onward M (o + pairSize * n) n (state encryption key input M o n) (each (rotated n) key) c ≡ state encryption key input M o (n + c)
-  unfolding onward state
-  onward-state n zero = let e : n ≡ n + 0 = omega arith in ap (state encryption key input M o) e
-  onward-state n (suc c) =
-      let S : ℕ → Shares = state encryption key input M o in
-      let e : n + suc c ≡ suc (n + c) = add-suc n c in
-      let at : o + pairSize * n + pairSize * c ≡ o + pairSize * (n + c) = omega arith in
-      (λ i. shareRound (n + c) (add (onward-state n c i) (masksAt M (at i))) (turned-twice (suc c) n key i))
-      ∙ ap (λ (z : ℕ). shareRound (n + c) (add (S (n + c)) (masksAt M (o + pairSize * (n + c)))) (each (rotated z) key)) e
-      ∙ ap S (sym e)
+  -- from pair n + 1 on
+  pub onward-masked : (n c : ℕ)
+      → onward M (o + pairSize * suc n) n (masked encryption key input M o n) (each (rotated n) key) c
+      ≡ masked encryption key input M o (n + c)
+  unfolding onward masked state
+  onward-masked n zero = let e : n ≡ n + 0 = omega arith in ap (masked encryption key input M o) e
+  onward-masked n (suc c) =
+      let m : ℕ → Shares = masked encryption key input M o in
+      let e : suc (n + c) ≡ n + suc c = omega arith in
+      let at : o + pairSize * suc n + pairSize * c ≡ o + pairSize * suc (n + c) = omega arith in
+      let turned = turned-twice (suc c) n key ∙ ap (λ (z : ℕ). each (rotated z) key) (sym e) in
+      (λ i. add (shareRound (n + c) (onward-masked n c i) (turned i)) (masksAt M (at i))) ∙ ap m e
 
--- a call in two parts: the rounds up to the one numbered n, and the rest
-module _ (k x : Shares) (b : Blocks k) (M : Reader) (o n a : ℕ) (s₀ m s₁ k₁ s₂ : Shares)
-    (low : 1 ≤ n) (high : n ≤ pairCount) (e₀ : s₀ ≡ add x k)
-    (em : m ≡ met M o 0 s₀ k (n - 0)) (e₁ : s₁ ≡ onward M o 0 s₀ k (n - 0)) (f₁ : k₁ ≡ each (rotated (n - 0)) k)
-    (ea : a ≡ o + pairSize * (n - 0)) (e₂ : s₂ ≡ onward M a n s₁ k₁ (pairCount - n)) where
-  none : n - 0 ≡ n
-  none = omega arith
+-- a call in two parts: up to the pair numbered n, and the rest
+module _ (k x : Shares) (b : Blocks k) (M : Reader) (o n a₀ a₁ : ℕ) (s s₀ s₁ k₁ k₂ s₂ : Shares)
+    (low : 1 ≤ n) (high : n ≤ pairCount) (e : s ≡ add x k) (e₀ : s₀ ≡ add s (masksAt M o)) (f₀ : a₀ ≡ o + pairSize)
+    (e₁ : s₁ ≡ onward M a₀ 0 s₀ k (n - 1 - 0)) (f₁ : k₁ ≡ each (rotated (n - 1 - 0)) k) (g₁ : a₁ ≡ a₀ + pairSize * (n - 1 - 0))
+    (e₂ : s₂ ≡ onward M a₁ (n - 1) s₁ k₁ (rounds - (n - 1)))
+    (f₂ : k₂ ≡ cond (ltb n pairCount) (each (rotated 1) k₁) k₁) where
+  from-none : n - 1 - 0 ≡ n - 1
+  from-none = omega arith
 
-  up : n ≡ suc (n - 1)
-  up = omega arith
-
-  reached : (c : ℕ) → onward M o 0 s₀ k c ≡ state encryption k x M o c
-  unfolding state
-  reached c =
-      let at : o ≡ o + pairSize * 0 = omega arith in
-      let z : 0 + c ≡ c = omega arith in
-      (λ i. onward M (at i) 0 (e₀ i) (turned-none k b i) c) ∙ onward-state k x M o 0 c ∙ ap (state encryption k x M o) z
-
-  shown-state : m ≡ masked encryption k x M o (n - 1)
-  unfolding masked met
+  shown-state : s₁ ≡ masked encryption k x M o (n - 1)
+  unfolding state masked
   shown-state =
-      em ∙ ap (met M o 0 s₀ k) (none ∙ up)
-      ∙ ap (λ (s : Shares). add s (masksAt M (o + pairSize * (n - 1)))) (reached (n - 1))
+      let at : a₀ ≡ o + pairSize * 1 = omega arith in
+      let first : o ≡ o + pairSize * 0 = omega arith in
+      let none : 0 + (n - 1) ≡ n - 1 = omega arith in
+      let start = e₀ ∙ λ i. add (e i) (masksAt M (first i)) in
+      e₁ ∙ (λ i. onward M (at i) 0 (start i) (turned-none k b i) (from-none i))
+      ∙ onward-masked k x M o 0 (n - 1) ∙ ap (masked encryption k x M o) none
 
-  shown-key : k₁ ≡ shownShares encryption k x M o (n - 1)
+  left : k₁ ≡ each (rotated (n - 1)) k
+  left = f₁ ∙ ap (λ (j : ℕ). each (rotated j) k) from-none
+
+  shown-key : k₂ ≡ shownShares encryption k x M o (n - 1)
   unfolding shownShares
-  shown-key = f₁ ∙ ap (λ (j : ℕ). each (rotated j) k) (none ∙ up)
+  shown-key = f₂ ∙ go (ltb n pairCount) (ltb→lt n pairCount) (λ t. nltb→le n pairCount t)
+    where
+      go : (t : Bool) → (T t → n < pairCount) → (T (not t) → pairCount ≤ n)
+          → cond t (each (rotated 1) k₁) k₁ ≡ each (rotated (min (suc (n - 1)) rounds)) k
+      go true h g =
+          let d : suc (n - 1) ≡ min (suc (n - 1)) rounds = omega (arith, h tt) in
+          ap (each (rotated 1)) left ∙ turned-more (n - 1) k ∙ ap (λ (j : ℕ). each (rotated j) k) d
+      go false h g =
+          let d : n - 1 ≡ min (suc (n - 1)) rounds = omega (arith, g tt) in
+          left ∙ ap (λ (j : ℕ). each (rotated j) k) d
 
   reaches-end : s₂ ≡ call encryption k x M o
   reaches-end =
-      let z : n + (pairCount - n) ≡ pairCount = omega arith in
-      let at = ea ∙ ap (λ (j : ℕ). o + pairSize * j) none in
-      let s = e₁ ∙ reached (n - 0) ∙ ap (state encryption k x M o) none in
-      let l = f₁ ∙ ap (λ (j : ℕ). each (rotated j) k) none in
-      e₂ ∙ (λ i. onward M (at i) n (s i) (l i) (pairCount - n))
-      ∙ onward-state k x M o n (pairCount - n) ∙ ap (state encryption k x M o) z
+      let at : a₁ ≡ o + pairSize * suc (n - 1) = omega arith in
+      let end : n - 1 + (rounds - (n - 1)) ≡ rounds = omega arith in
+      e₂ ∙ (λ i. onward M (at i) (n - 1) (shown-state i) (left i) (rounds - (n - 1)))
+      ∙ onward-masked k x M o (n - 1) (rounds - (n - 1)) ∙ ap (masked encryption k x M o) end
 
-  pub call-parts : (s₂ ≡ call encryption k x M o) × (m ≡ masked encryption k x M o (n - 1)) × (k₁ ≡ shownShares encryption k x M o (n - 1))
+  pub call-parts : (s₂ ≡ call encryption k x M o) × (s₁ ≡ masked encryption k x M o (n - 1))
+      × (k₂ ≡ shownShares encryption k x M o (n - 1))
   call-parts = (reaches-end, shown-state, shown-key)

@@ -14,27 +14,21 @@ use Rattle.masking.specs.Call.{shareRound, encryption, callSize}
 abbrev pub sharesOf : Triple → Shares
 sharesOf s = three (unpacked (s .a)) (unpacked (s .b)) (unpacked (s .c))
 
--- ---- some rounds, from the shares s on entering round n + 1 and the key's shares k as round n added them; masks from o on
+-- ---- some rounds, from the masked shares s before round n + 1 and the key's shares k as round n added them; masks from o on
 
 module _ (M : Reader) (o n : ℕ) (s k : Shares) where
-  -- the shares c rounds later
+  -- the shares c rounds later, with the masks behind the last of them
   unfoldable pub onward : ℕ → Shares
   onward zero = s
-  onward (suc c) = shareRound (n + c) (add (onward c) (masksAt M (o + pairSize * c))) (each (rotated (suc c)) k)
-
-  -- the shares just after the last of c rounds' masks
-  unfoldable pub met : ℕ → Shares
-  met zero = s
-  met (suc c) = add (onward c) (masksAt M (o + pairSize * c))
+  onward (suc c) = add (shareRound (n + c) (onward c) (each (rotated (suc c)) k)) (masksAt M (o + pairSize * c))
 
   -- r is where c rounds lead
   pub record Onward (c : ℕ) (r : Progress) : Type 0 where
-    pub masked : sharesOf (r .masked) ≡ met c
     pub state : sharesOf (r .state) ≡ onward c
     pub key : sharesOf (r .key) ≡ each (rotated c) k
     pub used : r .used ≡ o + pairSize * c
 
--- ---- r is a whole call of key shares k and input shares x: its output, and what its stage numbered n shows
+-- ---- r is a whole call of key shares k and input shares x: its output, and what its pair numbered n shows
 
 pub record CallDone (k x : Shares) (M : Reader) (o n : ℕ) (r : Called) : Type 0 where
   pub out : sharesOf (r .out) ≡ call encryption k x M o

@@ -1,7 +1,7 @@
 // BAKSHEESH on three XOR shares in packed form.
+use baksheesh::ROUNDS;
 use packing::pack;
 use packing::unpack;
-use words::steps::ROUNDS;
 use words::steps::add;
 use words::steps::add_constants;
 use words::steps::perm_bits;
@@ -9,10 +9,11 @@ use words::steps::rotate;
 ghost use mathlib.Core.Path.{_≡_};
 ghost use mathlib.Core.Bool.{cond};
 ghost use Prim.Native.Nat.{_+_, _-_, _*_, _≤_, _<_};
+ghost use lib.Dec.{ltb};
 ghost use lib.ListN.{length};
 ghost use Rattle.baksheesh.specs.Baksheesh.{rounds, rotated};
 ghost use Rattle.words.specs.Words.{unpacked};
-ghost use Rattle.masking.specs.Shares.{spread, each, sharesIn, flat, add as addShares, only as onlyShare, at, pairSize};
+ghost use Rattle.masking.specs.Shares.{spread, each, sharesIn, flat, add as addShares, only as onlyShare, at, pairSize, masksAt};
 ghost use Rattle.masking.specs.Sbox.{sboxShare};
 ghost use Rattle.masking.specs.Call.{laneRound, shareRound, pairCount, callSize};
 ghost use Rattle.shares.specs.Packed.{sharesOf, Onward, CallDone};
@@ -121,7 +122,7 @@ fn share_round(s: Triple, k: Triple, n: usize) -> Triple
 }
 
 // The masks u, v and u XOR v, one into each share.
-pub fn mask(s: Triple, u: [u32; 4], v: [u32; 4]) -> Triple
+fn add_masks(s: Triple, u: [u32; 4], v: [u32; 4]) -> Triple
     ensures { λ r. ⌜ sharesOf r ≡ addShares (sharesOf s) (spread (unpacked u) (unpacked v)) ⌝ }
 {
     let a = s.a;
@@ -165,72 +166,100 @@ fn rotate_shares(k: Triple) -> Triple
     }
 }
 
-// A mask, and the count of tape bytes read with it.
-pub struct Drawn {
-    pub mask: [u32; 4],
-    pub used: usize,
+// ---- the tape
+
+// The bytes of a pair of masks.
+pub const PAIR: usize = 32;
+
+// A pair of masks.
+pub struct Pair {
+    pub u: [u32; 4],
+    pub v: [u32; 4],
 }
 
-// The next mask of the tape.
-pub fn draw(tape: &[u8], used: usize) -> Drawn
-    requires { ⌜ used + 16 ≤ length (now tape) ⌝ }
-    ensures { λ r. ⌜ (unpacked (r .mask) ≡ at (now (tape .entry)) used) × (r .used ≡ used + 16) ⌝ }
+// The pair that stands at `used`.
+fn draw(tape: &[u8], used: usize) -> Pair
+    requires { ⌜ used + pairSize ≤ length (now tape) ⌝ }
+    ensures { λ r. ⌜ (unpacked (r .u) ≡ at (now (tape .entry)) used) × (unpacked (r .v) ≡ at (now (tape .entry)) (used + 16)) ⌝ }
 {
-    Drawn {
-        mask: pack(blocks::block_at(tape, used)),
-        used: used + 16,
+    Pair {
+        u: pack(blocks::block_at(tape, used)),
+        v: pack(blocks::block_at(tape, used + 16)),
     }
 }
 
-// Where some rounds have led: the shares just after the last round's masks, the shares that it made, the key's as it added them,
-// and the count of tape bytes read.
+// Shares with masks added, and the count of tape bytes read.
+pub struct Masked {
+    pub shares: Triple,
+    pub used: usize,
+}
+
+// The next pair of masks of the tape, added to shares.
+pub fn mask(s: Triple, tape: &[u8], used: usize) -> Masked
+    requires { ⌜ used + pairSize ≤ length (now tape) ⌝ }
+    ensures added { λ r. ⌜ sharesOf (r .shares) ≡ addShares (sharesOf s) (masksAt (at (now (tape .entry))) used) ⌝ }
+    ensures counted { λ r. ⌜ r .used ≡ used + pairSize ⌝ }
+{
+    let pair = draw(tape, used);
+    let u = pair.u;
+    let v = pair.v;
+    Masked {
+        shares: add_masks(s, u, v),
+        used: used + PAIR,
+    }
+}
+
+// ---- calls
+
+// Where some rounds have led: the shares, with the masks behind the last round; the key's as it added them; and the count of tape
+// bytes read.
 pub struct Progress {
-    pub masked: Triple,
     pub state: Triple,
     pub key: Triple,
     pub used: usize,
 }
 
-// The rounds after the first `from`, up to the round numbered `to`.
+// The rounds after the first `from`, up to the round numbered `to`, each with a pair of masks behind it.
 fn run_rounds(s: Triple, k: Triple, tape: &[u8], used: usize, from: usize, to: usize) -> Progress
     requires { ⌜ (from ≤ to) × (to ≤ rounds) × (used + pairSize * (to - from) ≤ length (now tape)) ⌝ }
     ensures { λ r. ⌜ Onward (at (now (tape .entry))) used from (sharesOf s) (sharesOf k) (to - from) r ⌝ }
 {
-    let mut masked = s;
     let mut state = s;
     let mut key = k;
     let mut read = used;
     let mut n = from;
     while n < to {
-        let first = draw(tape, read);
-        let second = draw(tape, first.used);
-        let u = first.mask;
-        let v = second.mask;
         let turned = rotate_shares(key);
-        let met = mask(state, u, v);
-        let next = share_round(met, turned, n);
-        masked = met;
+        let met = mask(share_round(state, turned, n), tape, read);
+        let next = met.shares;
         state = next;
         key = turned;
-        read = second.used;
+        read = met.used;
         n += 1;
     }
     Progress {
-        masked,
         state,
         key,
         used: read,
     }
 }
 
-// The pairs of masks of a call, one for each round; the bytes of a pair, and of a call's masks.
-pub const PAIRS: usize = ROUNDS;
+// The key's shares that pair n shows, of those that the round before it added: the next round's, but for the last pair.
+fn shown_key(k: Triple, n: usize) -> Triple
+    ensures { λ r. ⌜ sharesOf r ≡ cond (ltb n pairCount) (each (rotated 1) (sharesOf k)) (sharesOf k) ⌝ }
+{
+    if n < PAIRS {
+        return rotate_shares(k);
+    }
+    k
+}
 
-pub const PAIR: usize = 32;
+// The pairs of masks of a call: one before each round, and one for the output. Their bytes.
+pub const PAIRS: usize = ROUNDS + 1;
 
 pub const CALL: usize = PAIR * PAIRS;
 
-// A call's output, and what one of its rounds shows: the state's shares just after the masks, and the shares of the key that it adds.
+// A call's output, and what one of its pairs of masks shows: the state's shares just after it, and the key's.
 pub struct Called {
     pub out: Triple,
     pub state: Triple,
@@ -238,21 +267,23 @@ pub struct Called {
     pub used: usize,
 }
 
-// A call of key shares and input shares, with the masks from `used` on; it shows the round numbered `n`.
+// A call of key shares and input shares, with the masks from `used` on; it shows the pair numbered `n`.
 pub fn call(key: Triple, input: Triple, tape: &[u8], used: usize, n: usize) -> Called
     requires { ⌜ (1 ≤ n) × (n ≤ pairCount) × (used + callSize ≤ length (now tape)) ⌝ }
     ensures { λ r. ⌜ CallDone (sharesOf key) (sharesOf input) (at (now (tape .entry))) used n r ⌝ }
 {
-    let shown = run_rounds(add_shares(input, key), key, tape, used, 0, n);
-    let state = shown.masked;
-    let next = shown.state;
+    let first = mask(add_shares(input, key), tape, used);
+    let start = first.shares;
+    let done = n - 1;
+    let shown = run_rounds(start, key, tape, first.used, 0, done);
+    let state = shown.state;
     let turned = shown.key;
-    let after = run_rounds(next, turned, tape, shown.used, n, PAIRS);
+    let after = run_rounds(state, turned, tape, shown.used, done, ROUNDS);
     let out = after.state;
     Called {
         out,
         state,
-        key: turned,
+        key: shown_key(turned, n),
         used: after.used,
     }
 }

@@ -1,4 +1,5 @@
 // BAKSHEESH by byte tables.
+use baksheesh::ROUNDS;
 use lookup::inv_sub_cells;
 use lookup::sub_cells;
 use permute::inv_perm_bits;
@@ -9,8 +10,6 @@ use schedule::rotate;
 ghost use mathlib.Core.Path.{_≡_};
 ghost use Prim.Native.Nat.{_<_};
 ghost use Rattle.baksheesh.specs.Baksheesh.{rounds, round, invRound, encrypt, decrypt};
-
-const ROUNDS: usize = 35;
 
 fn round(s: [u8; 16], k: [u8; 16], n: usize) -> [u8; 16]
     requires { ⌜ n < rounds ⌝ }

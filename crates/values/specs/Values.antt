@@ -15,7 +15,7 @@ use Rattle.modes.specs.Cmac.{doubled}
 use Rattle.links.specs.Record.{standard, counterBlock, recordOf}
 use Rattle.masking.specs.Shares.{sharesIn, flat}
 use Rattle.masking.specs.Sbox.{sboxShares}
-use Rattle.masking.specs.Call.{shareRound}
+use Rattle.masking.specs.Call.{shareRound, encryption, pairCount, callSize}
 use Rattle.calls.specs.Numbered.{tapeNeed}
 use Rattle.answers.specs.Answer.{numberOf}
 use Rattle.window.specs.Window.{empty, after}
@@ -94,8 +94,12 @@ rows =
     -- what a body in another order, with a skipped word, says: 1 and 2 in the seconds, 3 in the fraction, a minute behind
     ∷ (values (markIn (words (0x4f ∷ 0xff ∷ 0xff ∷ 0xff ∷ 0x30 ∷ 0 ∷ 0 ∷ 3 ∷ 0x50 ∷ 0 ∷ 0 ∷ 0 ∷ 0x20 ∷ 0 ∷ 0 ∷ 2 ∷ 0x10 ∷ 0 ∷ 0 ∷ 1 ∷ [])))
     is (0 ∷ 0 ∷ 0 ∷ 0 ∷ 0x10 ∷ 0 ∷ 0 ∷ 2 ∷ 0 ∷ 0 ∷ 0 ∷ 3 ∷ 1 ∷ 0xff ∷ 0xff ∷ 0xff ∷ 0xff ∷ []))
-    -- the tape need of a message of 0, 1, 16, 17 and 256 bytes
-    ∷ ((tapeNeed 0 ∷ tapeNeed 1 ∷ tapeNeed 16 ∷ tapeNeed 17 ∷ tapeNeed 256 ∷ []) is (2304 ∷ 4544 ∷ 4544 ∷ 6784 ∷ 38144 ∷ []))
+    -- the key that the pair before the last round shows, and the last pair: rotated by 35
+    ∷ (encryption .shownKey 34 (onlyBit 0) is onlyBit 93)
+    ∷ (encryption .shownKey 35 (onlyBit 0) is onlyBit 93)
+    -- the pairs of masks of a call and their bytes; the tape need of a message of 0, 1, 16, 17 and 256 bytes
+    ∷ ((pairCount ∷ callSize ∷ []) is (36 ∷ 1152 ∷ []))
+    ∷ ((tapeNeed 0 ∷ tapeNeed 1 ∷ tapeNeed 16 ∷ tapeNeed 17 ∷ tapeNeed 256 ∷ []) is (2368 ∷ 4672 ∷ 4672 ∷ 6976 ∷ 39232 ∷ []))
     -- the window: shifted by 1, 63 and 64 places
     ∷ (fields early is (3 ∷ 7 ∷ []))
     ∷ (fields later is (66 ∷ 0x8000000000000001 ∷ []))

@@ -1,4 +1,5 @@
 // The steps of a round on a block in packed form, all but the S-box.
+use baksheesh::ROUNDS;
 use bits::swapmove_wide;
 ghost use mathlib.Core.Path.{_≡_};
 ghost use Prim.Native.Nat.{ℕ, _+_, _-_, _*_, _/_, _%_, _<_};
@@ -6,8 +7,6 @@ ghost use Rattle.bits.specs.Bit.{bit};
 ghost use Rattle.blocks.specs.Bytes.{_⊕_};
 ghost use Rattle.baksheesh.specs.Baksheesh.{rounds, permBits, constant, rotated};
 ghost use Rattle.words.specs.Words.{unpacked};
-
-pub const ROUNDS: usize = 35;
 
 // Two words in one: in each half, bit 4a + b goes to bit a of byte 3 - b.
 fn perm_words(x: u64) -> u64

@@ -1,34 +1,46 @@
--- `call` meets its contract: the rounds up to the one that is shown, and the rest. Assumes nothing.
+-- `call` meets its contract: the rounds up to the pair that is shown, and the rest. Assumes nothing.
 use Rattle.prelude.proofs.{_+_, _-_, _*_, _≤_, arith, length, needs}
-use Rattle.masking.specs.{Shares.at, Shares.pairSize, Call.pairCount}
+use Rattle.baksheesh.specs.Baksheesh.{rounds}
+use Rattle.masking.specs.{Shares.at, Shares.pairSize}
 use Rattle.shares.specs.Packed.{sharesOf}
 use Rattle.shares.proofs.Onward.{packed-blocks, call-parts}
 use Rattle.shares.proofs.call as fn
 
 run-rounds-requires : fn.Tie.Need-run-rounds-requires
 run-rounds-requires c κs =
-    let s = c .before .before in
-    let fits : s .args .used + pairSize * (s .args .n - 0) ≤ length (s .args .tape .now) = omega (arith, s .pre) in
-    (omega arith, s .pre .1, fits)
+    let m = c .before in
+    let s = m .before .before .before in
+    let fits : m .mask .result .used + pairSize * (s .args .n - 1 - 0) ≤ length (s .args .tape .now) =
+    omega (arith, s .pre, m .mask .ensures .1) in
+    (omega arith, omega (arith, s .pre), fits)
 
 run-rounds-requires-2 : fn.Tie.Need-run-rounds-requires-2
 run-rounds-requires-2 c κs =
-    let r = c .before .before .before in
-    let s = r .before .before .before in
-    let fits : r .run-rounds .result .used + pairSize * (pairCount - s .args .n) ≤ length (s .args .tape .now) =
-    omega (arith, s .pre, r .run-rounds .ensures .used) in
-    (s .pre .1, omega arith, fits)
+    let r = c .before .before in
+    let m = r .before .before in
+    let s = m .before .before .before in
+    let fits : r .run-rounds .result .used + pairSize * (rounds - (s .args .n - 1)) ≤ length (s .args .tape .now) =
+    omega (arith, s .pre, m .mask .ensures .1, r .run-rounds .ensures .used) in
+    (omega (arith, s .pre), omega arith, fits)
 
 returns : fn.Tie.Need-returns
 returns c =
+    let l = c .before .before .run-rounds2 .ensures in
     let r = c .before .before .before .before .before in
-    let s = r .before .before .before in
-    let a = s .args in
     let f = r .run-rounds .ensures in
-    let l = c .before .run-rounds2 .ensures in
+    let m = r .before .before in
+    let s = m .before .before .before in
+    let a = s .args in
     let parts = call-parts (sharesOf (a .key)) (sharesOf (a .input)) (packed-blocks (a .key)) (at (a .tape .now)) (a .used) (a .n)
-    _ _ _ _ _ _ (s .pre .0) (s .pre .1) (r .before .add-shares .ensures) (f .masked) (f .state) (f .key) (f .used) (l .state) in
-    record { out = parts .0; state = parts .1; key = parts .2; used = omega (arith, s .pre, f .used, l .used) }
+    _ _ _ _ _ _ _ _ (s .pre .0) (s .pre .1) (m .before .add-shares .ensures) (m .mask .ensures .0) (m .mask .ensures .1)
+    (f .state) (f .key) (f .used) (l .state) (c .shown-key .ensures) in
+    record {
+      out = parts .0;
+      state = parts .1;
+      key = parts .2;
+      used = omega (arith, s .pre, m .mask .ensures .1, f .used, l .used);
+    }
 
 pub call-spec : {M : Type 1} → fn.Statement.statement M
-call-spec = fn.Tie.close (fn.Tie.spec (λ c κs. search needs) run-rounds-requires run-rounds-requires-2 returns)
+call-spec = fn.Tie.close (fn.Tie.spec (λ c κs. search needs) (λ c κs. omega arith) (λ c. omega arith) run-rounds-requires
+    run-rounds-requires-2 (λ c κs. search needs) returns)

@@ -1,11 +1,13 @@
 -- `draw` meets its contract. Assumes nothing.
-use Rattle.prelude.proofs.{refl, _∙_, needs}
+use Rattle.prelude.proofs.{_∙_, arith, needs}
 use Rattle.masking.specs.Shares.{at}
 use Rattle.shares.proofs.draw as fn
 
 returns : fn.Tie.Need-returns
 unfolding at
-returns c = (c .pack .ensures ∙ c .before .block-at .ensures, refl)
+returns c =
+    let u = c .before .before in
+    (u .pack .ensures ∙ u .before .block-at .ensures, c .pack2 .ensures ∙ c .before .block-at2 .ensures)
 
 pub draw-spec : {M : Type 1} → fn.Statement.statement M
-draw-spec = fn.Tie.close (fn.Tie.spec (λ c κs. search needs) (λ c κs. search needs) (λ c. search needs) returns)
+draw-spec = fn.Tie.close (fn.Tie.spec (λ c κs. omega arith) (λ c κs. search needs) (λ c. search needs) (λ c κs. omega arith) (λ c κs. search needs) returns)

@@ -2,18 +2,17 @@
 use Rattle.prelude.proofs.{_≡_, sym, ap, _∙_, ℕ, suc, _+_, _-_, _*_, _≤_, arith, needs}
 use Rattle.baksheesh.specs.Baksheesh.{rotated}
 use Rattle.masking.specs.Shares.{each, at, pairSize}
-use Rattle.shares.specs.Packed.{sharesOf, onward, met}
-use Rattle.shares.proofs.Onward.{packed-blocks, turned-none, onward-none, met-none, onward-more}
+use Rattle.shares.specs.Packed.{sharesOf, onward}
+use Rattle.shares.proofs.Onward.{packed-blocks, turned-none, onward-none, onward-more}
 use Rattle.shares.proofs.run_rounds as fn
 
 abbrev Inv-loop : fn.Tie.InvT-loop
-Inv-loop tape used from to masked₀ state₀ key₀ read₀ n₀ masked state key read n =
-    (from ≤ n) × (n ≤ to) × (sharesOf masked ≡ met (at tape) used from (sharesOf state₀) (sharesOf key₀) (n - from))
-    × (sharesOf state ≡ onward (at tape) used from (sharesOf state₀) (sharesOf key₀) (n - from))
+Inv-loop tape used from to state₀ key₀ read₀ n₀ state key read n =
+    (from ≤ n) × (n ≤ to) × (sharesOf state ≡ onward (at tape) used from (sharesOf state₀) (sharesOf key₀) (n - from))
     × (sharesOf key ≡ each (rotated (n - from)) (sharesOf key₀)) × (read ≡ used + pairSize * (n - from))
 
 abbrev μ-loop : fn.Tie.MeasureT-loop
-μ-loop tape used from to masked₀ state₀ key₀ read₀ n₀ masked state key read n = to - n
+μ-loop tape used from to state₀ key₀ read₀ n₀ state key read n = to - n
 
 loop-holds : fn.Tie.Need-loop-holds Inv-loop μ-loop
 loop-holds c =
@@ -21,7 +20,6 @@ loop-holds c =
     let z : 0 ≡ a .from - a .from = omega arith in (
       omega arith,
       omega arith,
-      sym (met-none _ _ _ _ _) ∙ ap (met (at (a .tape .now)) (a .used) (a .from) (sharesOf (a .s)) (sharesOf (a .k))) z,
       sym (onward-none _ _ _ _ _) ∙ ap (onward (at (a .tape .now)) (a .used) (a .from) (sharesOf (a .s)) (sharesOf (a .k))) z,
       turned-none (sharesOf (a .k)) (packed-blocks (a .k)) ∙ ap (λ (n : ℕ). each (rotated n) (sharesOf (a .k))) z,
       omega arith,
@@ -29,23 +27,19 @@ loop-holds c =
 
 loop-again : fn.Tie.Need-loop-again Inv-loop μ-loop
 loop-again c =
-    let v = c .before .before .before .before .before in
-    let u = v .before in
-    let l = u .before .before .loop in
-    let a = u .before .before .before .before .args in
+    let m = c .before in
+    let t = m .before .before in
+    let l = t .before .before .loop in
+    let a = t .before .before .before .before .args in
     let n : ℕ = l .n - a .from in
-    let M = at (a .tape .now) in
-    let here : l .read ≡ a .used + pairSize * n = l .inv .5 in
     let more : suc n ≡ l .n + 1 - a .from = omega arith in
-    let went = onward-more M (a .used) (a .from) (sharesOf (a .s)) (sharesOf (a .k)) n (l .n) _ _ _ _ _ _ _ (l .inv .3) (l .inv .4)
-    (u .draw .ensures .0 ∙ ap M here) (v .draw2 .ensures .0 ∙ ap M (u .draw .ensures .1 ∙ ap (λ (p : ℕ). p + 16) here))
-    (c .before .mask .ensures) (c .before .before .rotate-shares .ensures) (omega arith) (c .share-round .ensures) in (
+    let went = onward-more (at (a .tape .now)) (a .used) (a .from) (sharesOf (a .s)) (sharesOf (a .k)) n (l .n) (l .read) _ _ _ _ _
+    (l .inv .2) (l .inv .3) (t .rotate-shares .ensures) (omega arith) (m .before .share-round .ensures) (l .inv .4) (m .mask .ensures .0) in (
       omega arith,
       omega arith,
-      went .0 ∙ ap (met M (a .used) (a .from) (sharesOf (a .s)) (sharesOf (a .k))) more,
-      went .1 ∙ ap (onward M (a .used) (a .from) (sharesOf (a .s)) (sharesOf (a .k))) more,
-      went .2 ∙ ap (λ (n : ℕ). each (rotated n) (sharesOf (a .k))) more,
-      omega (arith, u .draw .ensures .1, v .draw2 .ensures .1, here),
+      went .0 ∙ ap (onward (at (a .tape .now)) (a .used) (a .from) (sharesOf (a .s)) (sharesOf (a .k))) more,
+      went .1 ∙ ap (λ (n : ℕ). each (rotated n) (sharesOf (a .k))) more,
+      omega (arith, m .mask .ensures .1, l .inv .4),
     )
 
 returns : fn.Tie.Need-returns Inv-loop μ-loop
@@ -54,12 +48,11 @@ returns c =
     let l = c .before .loop in
     let e : l .n - a .from ≡ a .to - a .from = omega arith in
     record {
-      masked = l .inv .2 ∙ ap (met (at (a .tape .now)) (a .used) (a .from) (sharesOf (a .s)) (sharesOf (a .k))) e;
-      state = l .inv .3 ∙ ap (onward (at (a .tape .now)) (a .used) (a .from) (sharesOf (a .s)) (sharesOf (a .k))) e;
-      key = l .inv .4 ∙ ap (λ (n : ℕ). each (rotated n) (sharesOf (a .k))) e;
-      used = l .inv .5 ∙ ap (λ (n : ℕ). a .used + pairSize * n) e;
+      state = l .inv .2 ∙ ap (onward (at (a .tape .now)) (a .used) (a .from) (sharesOf (a .s)) (sharesOf (a .k))) e;
+      key = l .inv .3 ∙ ap (λ (n : ℕ). each (rotated n) (sharesOf (a .k))) e;
+      used = l .inv .4 ∙ ap (λ (n : ℕ). a .used + pairSize * n) e;
     }
 
 pub run-rounds-spec : {M : Type 1} → fn.Statement.statement M
-run-rounds-spec = fn.Tie.close (fn.Tie.spec Inv-loop μ-loop loop-holds (λ c κs. omega arith) (λ c κs. omega (arith, c .draw .ensures .1))
-    (λ c κs. search needs) (λ c κs. search needs) (λ c κs. omega arith) (λ c. omega arith) (λ c. omega arith) loop-again returns)
+run-rounds-spec = fn.Tie.close (fn.Tie.spec Inv-loop μ-loop loop-holds (λ c κs. search needs) (λ c κs. omega arith) (λ c κs. omega arith)
+    (λ c. omega arith) (λ c. omega arith) loop-again returns)
