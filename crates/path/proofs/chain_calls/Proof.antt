@@ -27,19 +27,21 @@ loop-holds c =
     let e : n + 1 ≡ n + 1 + 0 = omega arith in
     (omega arith, walked-at _ _ _ e (record { calls = W .calls; used = W .used; saw = W .saw }), chain-none _ _ _ (c .only .ensures))
 
-before-end : (c : fn.Tie.In-loop Inv-loop μ-loop)
-    → c .before .loop .j < blockCount (length (c .before .before .before .before .before .before .before .args .message .now))
+abbrev start : fn.Tie.At-loop Inv-loop μ-loop → fn.Tie.Start Inv-loop μ-loop
+start l = l .before .before .before .before .before .before
+
+before-end : (c : fn.Tie.In-loop Inv-loop μ-loop) → c .before .loop .j < blockCount (length (start (c .before) .args .message .now))
 before-end c = omega arith
 
 mac-block-requires : fn.Tie.Need-mac-block-requires Inv-loop μ-loop
 mac-block-requires c κs =
-    let s = c .before .before .before .before .before .before .before .before in
+    let s = start (c .before .before) in
     ((s .pre .0 .left, omega (arith, before-end (c .before))), (s .pre .0 .short, s .pre .1 .1 .1 .size))
 
 step-requires : fn.Tie.Need-step-requires Inv-loop μ-loop
 step-requires c κs =
     let l = c .before .before .before .before in
-    let s = l .before .before .before .before .before .before in
+    let s = start l in
     let n : ℕ = blockCount (length (s .args .message .now)) in
     walked-ready (s .args .link) (s .args .message .now) (s .args .tape .now) (s .args .watch) (n + 1 + l .loop .j) (l .loop .w)
     (s .pre .0) (l .loop .inv .1) (omega (arith, before-end (c .before .before .before)))
@@ -47,7 +49,7 @@ step-requires c κs =
 loop-again : fn.Tie.Need-loop-again Inv-loop μ-loop
 loop-again c =
     let l = c .before .before .before .before .before in
-    let s = l .before .before .before .before .before .before in
+    let s = start l in
     let x = s .args .link in
     let m = s .args .message .now in
     let M = at (s .args .tape .now) in
@@ -65,7 +67,7 @@ loop-again c =
 returns : fn.Tie.Need-returns Inv-loop μ-loop
 returns c =
     let l = c .before in
-    let a = l .before .before .before .before .before .before .args in
+    let a = start l .args in
     let n : ℕ = blockCount (length (a .message .now)) in
     let d : l .loop .j ≡ n = omega arith in
     let e : n + 1 + l .loop .j ≡ 2 * n + 1 = omega arith in
