@@ -171,20 +171,29 @@ fn rotate_shares(k: Triple) -> Triple
 // The bytes of a pair of masks.
 pub const PAIR: usize = 32;
 
-// A pair of masks.
-pub struct Pair {
+// The pairs of a call: one before each round, and one for the output. Their bytes.
+pub const PAIRS: usize = ROUNDS + 1;
+
+pub const CALL: usize = PAIR * PAIRS;
+
+// A pair of masks, and the count of tape bytes read with it.
+pub struct Drawn {
     pub u: [u32; 4],
     pub v: [u32; 4],
+    pub used: usize,
 }
 
-// The pair that stands at `used`.
-fn draw(tape: &[u8], used: usize) -> Pair
+// The next pair of masks of the tape.
+fn draw(tape: &[u8], used: usize) -> Drawn
     requires { ⌜ used + pairSize ≤ length (now tape) ⌝ }
-    ensures { λ r. ⌜ (unpacked (r .u) ≡ at (now (tape .entry)) used) × (unpacked (r .v) ≡ at (now (tape .entry)) (used + 16)) ⌝ }
+    ensures first { λ r. ⌜ unpacked (r .u) ≡ at (now (tape .entry)) used ⌝ }
+    ensures second { λ r. ⌜ unpacked (r .v) ≡ at (now (tape .entry)) (used + 16) ⌝ }
+    ensures counted { λ r. ⌜ r .used ≡ used + pairSize ⌝ }
 {
-    Pair {
+    Drawn {
         u: pack(blocks::block_at(tape, used)),
         v: pack(blocks::block_at(tape, used + 16)),
+        used: used + PAIR,
     }
 }
 
@@ -205,7 +214,7 @@ pub fn mask(s: Triple, tape: &[u8], used: usize) -> Masked
     let v = pair.v;
     Masked {
         shares: add_masks(s, u, v),
-        used: used + PAIR,
+        used: pair.used,
     }
 }
 
@@ -253,11 +262,6 @@ fn shown_key(k: Triple, n: usize) -> Triple
     }
     k
 }
-
-// The pairs of masks of a call: one before each round, and one for the output. Their bytes.
-pub const PAIRS: usize = ROUNDS + 1;
-
-pub const CALL: usize = PAIR * PAIRS;
 
 // A call's output, and what one of its pairs of masks shows: the state's shares just after it, and the key's.
 pub struct Called {

@@ -1,5 +1,5 @@
 -- `draw` meets its contract. Assumes nothing.
-use Rattle.prelude.proofs.{_∙_, arith, needs}
+use Rattle.prelude.proofs.{refl, _∙_, arith, needs}
 use Rattle.masking.specs.Shares.{at}
 use Rattle.shares.proofs.draw as fn
 
@@ -7,7 +7,8 @@ returns : fn.Tie.Need-returns
 unfolding at
 returns c =
     let u = c .before .before in
-    (u .pack .ensures ∙ u .before .block-at .ensures, c .pack2 .ensures ∙ c .before .block-at2 .ensures)
+    (u .pack .ensures ∙ u .before .block-at .ensures, (c .pack2 .ensures ∙ c .before .block-at2 .ensures, refl))
 
 pub draw-spec : {M : Type 1} → fn.Statement.statement M
-draw-spec = fn.Tie.close (fn.Tie.spec (λ c κs. omega arith) (λ c κs. search needs) (λ c. search needs) (λ c κs. omega arith) (λ c κs. search needs) returns)
+draw-spec = fn.Tie.close (fn.Tie.spec (λ c κs. omega arith) (λ c κs. search needs) (λ c. search needs) (λ c κs. omega arith)
+    (λ c κs. search needs) (λ c. omega arith) returns)
