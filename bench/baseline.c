@@ -296,7 +296,10 @@ static inline packed sbox_share(uint32_t one, packed a, packed b)
     }};
 }
 
-/* A call: 35 rounds, each with masks of its own from the tape. */
+/* The pairs of masks of a call: one for each round, and one for the output. Their bytes of tape. */
+enum { PAIRS = ROUNDS + 1, CALL_TAPE = 2 * BLOCK * PAIRS };
+
+/* A call: 35 rounds, each with masks of its own from the tape, and a last pair on its output. */
 static triple call(triple key, triple input, const uint8_t *tape)
 {
     triple k = key, s = add_shares(input, key);
@@ -309,12 +312,12 @@ static triple call(triple key, triple input, const uint8_t *tape)
             add(perm_bits(sbox_share(0, s.a, s.b)), k.c),
         };
     }
-    return s;
+    return mask(s, tape + 2 * BLOCK * ROUNDS);
 }
 
 /* ---- shared sealing */
 
-enum { CALL_TAPE = 2 * BLOCK * ROUNDS, MOST_BLOCKS = RASPPUCE_MESSAGE_MOST / BLOCK };
+enum { MOST_BLOCKS = RASPPUCE_MESSAGE_MOST / BLOCK };
 
 static inline packed only_bits(packed s, packed bits)
 {

@@ -96,7 +96,7 @@ static int state_joins(const sealing *s)
     return join(s, SUBKEY_CALL, 1, 0, joined) && memcmp(joined, key_of(s), BLOCK) == 0;
 }
 
-/* Whether there are just so many calls, rounds and lanes. */
+/* Whether there are just so many calls, rounds, with the output behind the last, and lanes. */
 static int lanes_right(const sealing *s)
 {
     uint8_t seen[RASPPUCE_LANE_BYTES];
@@ -141,7 +141,7 @@ static void show_words(const sealing *s)
              key_joins(s) && state_joins(s));
     printf("2 A call is one use of the cipher; sealing our time mark takes %d. A call has\n"
            "  %u rounds (steps), a round has %u lanes. A lane makes one new share from %u\n",
-           CALLS, RASPPUCE_LAST_ROUND, RASPPUCE_LAST_LANE + 1, RASPPUCE_LANE_BYTES);
+           CALLS, RASPPUCE_LAST_ROUND - 1, RASPPUCE_LAST_LANE + 1, RASPPUCE_LANE_BYTES);
     end_line(printf("  bytes: 2 shares of the state and 1 of the key, never all 3 of one."),
              lanes_right(s));
     printf("3 The tape is %d random bytes, new for each sealing. A mask is %d of these,\n",

@@ -27,8 +27,8 @@
 #if RASPPUCE_CALLS(0) != 2 || RASPPUCE_CALLS(1) != 4 || RASPPUCE_CALLS(16) != 4 || RASPPUCE_CALLS(17) != 6
 #error "two calls for each block, and two"
 #endif
-#if RASPPUCE_TAPE_BYTES(0) != 2304 || RASPPUCE_TAPE_BYTES(RASPPUCE_MESSAGE_MOST) != RASPPUCE_TAPE_MOST
-#error "1120 bytes for each call, and 64"
+#if RASPPUCE_TAPE_BYTES(0) != 2368 || RASPPUCE_TAPE_BYTES(RASPPUCE_MESSAGE_MOST) != RASPPUCE_TAPE_MOST
+#error "1152 bytes for each call, and 64"
 #endif
 #if RASPPUCE_VALUES_BYTES != 8 + 4 + 1 + 4
 #error "seconds, fraction, whether there is an offset, offset"

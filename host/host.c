@@ -132,11 +132,19 @@ static uint64_t word_at(const uint8_t *bytes)
     return (uint64_t)number_at(bytes) << 32 | number_at(bytes + 4);
 }
 
-/* The XOR of three blocks that stand one behind the other. */
-static void join(uint8_t *block, const uint8_t *shares)
+/* XORs a block into another. */
+static void add(uint8_t *to, const uint8_t *what)
 {
     for (int i = 0; i < 16; i++)
-        block[i] = shares[i] ^ shares[16 + i] ^ shares[32 + i];
+        to[i] ^= what[i];
+}
+
+/* The XOR of three blocks, each `apart` bytes behind the one before. */
+static void join(uint8_t *block, const uint8_t *shares, size_t apart)
+{
+    memcpy(block, shares, 16);
+    add(block, shares + apart);
+    add(block, shares + 2 * apart);
 }
 
 /* ---- the rack */
@@ -146,8 +154,8 @@ enum { LINK = 7 }; /* the link's number */
 /* Places in a link; a sender has no window. */
 enum { NUMBER_AT = 1, LAST_AT = 5, KEYS_AT = 9, WINDOW_AT = 41 };
 
-/* Where the sequence number stands in a record. */
-enum { SEQUENCE_AT = RASPPUCE_NUMBER_BYTES };
+/* Where the sequence number stands in a record, and the ciphertext. */
+enum { SEQUENCE_AT = RASPPUCE_NUMBER_BYTES, TEXT_AT = SEQUENCE_AT + RASPPUCE_SEQUENCE_BYTES };
 
 static slice keys;           /* KE, then KM */
 static slice key_shares;     /* three shares of KE, then three of KM */
@@ -259,8 +267,8 @@ static void key_receiver(slice *link, uint32_t number)
 static void key_links(void)
 {
     fill(&key_shares);
-    join(keys.at, key_shares.at);
-    join(keys.at + 16, key_shares.at + 48);
+    join(keys.at, key_shares.at, 16);
+    join(keys.at + 16, key_shares.at + 48, 16);
     check(rasppuce_key_sender(LEND(sender), LINK, LEND(key_shares)) == RASPPUCE_OK, "keying the sender");
     check(sender.at[0] == 1 && number_at(sender.at + NUMBER_AT) == LINK && number_at(sender.at + LAST_AT) == 0,
           "a keyed sender has its number, and 0 as the last one");
@@ -307,7 +315,7 @@ static void send(size_t len)
     check(number_at(record.at) == LINK && number_at(record.at + SEQUENCE_AT) == sequence,
           "a record begins with link number and sequence number");
     uint8_t tag[16];
-    join(tag, tag_shares.at);
+    join(tag, tag_shares.at, 16);
     check(memcmp(tag, record.at + record_len - RASPPUCE_TAG_BYTES, 16) == 0,
           "the tag shares join to the tag");
     check(number_at(tag_shares.at + 48) == RASPPUCE_TAPE_BYTES(len), "the tape count is the need");
@@ -507,23 +515,114 @@ static void out_of_turn(void)
 
 /* ---- reports and blocks */
 
-/* The three lanes of one round, for the next sealing. */
-static void report(size_t len, uint32_t call, uint32_t round)
+/* Where the key share stands in a lane, behind two state shares. */
+enum { KEY_SHARE_AT = 32 };
+
+/* The three lanes of one round, one behind the other. */
+typedef struct {
+    uint8_t at[3 * RASPPUCE_LANE_BYTES];
+} lanes;
+
+static const uint8_t *lane_of(const lanes *l, int i)
 {
-    uint8_t lanes[3][RASPPUCE_LANE_BYTES];
-    prepare(len);
+    return l->at + RASPPUCE_LANE_BYTES * i;
+}
+
+/* State share i, which stands first in the lane before it. */
+static const uint8_t *state_share(const lanes *l, int i)
+{
+    return lane_of(l, (i + 2) % 3);
+}
+
+/* What is shown of a round of the next sealing. */
+static lanes show(uint32_t call, uint32_t round)
+{
+    lanes shown;
     for (uint32_t i = 0; i <= RASPPUCE_LAST_LANE; i++) {
         mark(&lane);
         save();
         uint32_t answer = rasppuce_report(LEND(sender), LEND(message), LEND(tape), call, round, i, LEND(lane));
         check(answer == RASPPUCE_OK && !untouched(&lane, 0), "a report");
         check(memcmp(sender.saved, sender.at, sender.len) == 0, "a report leaves the link alone");
-        memcpy(lanes[i], lane.at, RASPPUCE_LANE_BYTES);
+        memcpy(shown.at + RASPPUCE_LANE_BYTES * i, lane.at, RASPPUCE_LANE_BYTES);
     }
     for (int i = 0; i < 3; i++)
-        check(memcmp(lanes[i] + 16, lanes[(i + 1) % 3], 16) == 0, "a state share stands in two lanes");
+        check(memcmp(lane_of(&shown, i) + 16, lane_of(&shown, (i + 1) % 3), 16) == 0,
+              "a state share stands in two lanes");
+    return shown;
+}
+
+/* The three lanes of one round, for a new message. */
+static void report(size_t len, uint32_t call, uint32_t round)
+{
+    prepare(len);
+    show(call, round);
     printf("  lanes 0, 1, 2 of call %lu, round %lu: three state shares, each in two lanes\n",
            (unsigned long)call, (unsigned long)round);
+}
+
+/* A call's output, as the last round shows it: joined, the cipher's block for what the first round shows. */
+static lanes show_output(uint32_t call, const uint8_t *call_key)
+{
+    uint8_t joined[16];
+    lanes first = show(call, 1);
+    lanes before = show(call, RASPPUCE_LAST_ROUND - 1), last = show(call, RASPPUCE_LAST_ROUND);
+    for (int i = 0; i < 3; i++)
+        check(memcmp(lane_of(&last, i) + KEY_SHARE_AT, lane_of(&before, i) + KEY_SHARE_AT, 16) == 0,
+              "the output has the key shares of the round before it");
+    memcpy(key.at, call_key, 16);
+    join(block.at, first.at, RASPPUCE_LANE_BYTES);
+    add(block.at, key.at);
+    join(joined, last.at, RASPPUCE_LANE_BYTES);
+    check(rasppuce_encrypt_packed(LEND(key), LEND(block), LEND(by_words)) == RASPPUCE_OK
+          && memcmp(by_words.at, joined, 16) == 0, "the output joins to the block that the cipher makes");
+    return last;
+}
+
+/* The pair of masks at the tape's end goes into the last call's output; zeros there leave it bare. */
+static void last_masks(uint32_t call, const lanes *masked)
+{
+    uint8_t masks[48] = {0}, *pair = tape.at + tape.len - RASPPUCE_ROUND_MASKS_BYTES;
+    memcpy(masks, pair, 32);
+    add(masks + 32, masks);
+    add(masks + 32, masks + 16);
+    memset(pair, 0, 32);
+    lanes bare = show(call, RASPPUCE_LAST_ROUND);
+    memcpy(pair, masks, 32);
+    for (int i = 0; i < 3; i++) {
+        add(masks + 16 * i, state_share(&bare, i));
+        check(memcmp(masks + 16 * i, state_share(masked, i), 16) == 0,
+              "u, v and u XOR v go into the output shares");
+    }
+}
+
+/* The outputs of all calls, for a new message; then the sealing that was shown. */
+static void report_outputs(size_t len)
+{
+    const uint32_t calls = RASPPUCE_CALLS(len), count = calls / 2 - 1; /* as many make the key stream */
+    uint8_t stream[RASPPUCE_MESSAGE_MOST], tag[16];
+    lanes output;
+    prepare(len);
+    for (uint32_t call = 1; call <= calls; call++) {
+        output = show_output(call, call <= count ? keys.at : keys.at + 16);
+        if (call <= count)
+            join(stream + 16 * (call - 1), output.at, RASPPUCE_LANE_BYTES);
+    }
+    last_masks(calls, &output);
+
+    fit(&record, len + RASPPUCE_RECORD_ADDS);
+    uint32_t answer = rasppuce_seal(LEND(sender), LEND(message), LEND(tape), LEND(record), LEND(tag_shares));
+    check(answer == RASPPUCE_OK, "sealing what was shown");
+    for (size_t i = 0; i < len; i++)
+        stream[i] ^= message.at[i];
+    check(memcmp(record.at + TEXT_AT, stream, len) == 0, "outputs join to the key stream");
+    join(tag, output.at, RASPPUCE_LANE_BYTES);
+    check(memcmp(record.at + TEXT_AT + len, tag, 16) == 0, "the last output joins to the tag");
+    for (int i = 0; i < 3; i++)
+        check(memcmp(tag_shares.at + 16 * i, state_share(&output, i), 16) == 0,
+              "the tag shares are the shares of the last output");
+    printf("  outputs of %2lu calls for %3lu bytes: the cipher's, the record's and those of the tag shares\n",
+           (unsigned long)calls, (unsigned long)len);
 }
 
 /* Both engines of the block cipher, there and back. */
@@ -654,13 +753,13 @@ static const no_lane no_lanes[] = {
     {0, 1, 0, RASPPUCE_CALL, "call 0"},
     {3, 1, 0, RASPPUCE_CALL, "call 3 of an empty message's sealing"},
     {1, 0, 0, RASPPUCE_ROUND, "round 0"},
-    {1, RASPPUCE_LAST_ROUND + 1, 0, RASPPUCE_ROUND, "round 36"},
+    {1, RASPPUCE_LAST_ROUND + 1, 0, RASPPUCE_ROUND, "round 37"},
     {1, 1, RASPPUCE_LAST_LANE + 1, RASPPUCE_LANE, "lane 3"},
     {1, 1, UINT32_MAX, RASPPUCE_LANE, "lane 4294967295"},
-    {3, RASPPUCE_LAST_ROUND + 1, 0, RASPPUCE_CALL, "call 3 and round 36"},
+    {3, RASPPUCE_LAST_ROUND + 1, 0, RASPPUCE_CALL, "call 3 and round 37"},
     {0, 1, RASPPUCE_LAST_LANE + 1, RASPPUCE_CALL, "call 0 and lane 3"},
     {2, 0, RASPPUCE_LAST_LANE + 1, RASPPUCE_ROUND, "round 0 and lane 3"},
-    {3, RASPPUCE_LAST_ROUND + 1, UINT32_MAX, RASPPUCE_CALL, "call 3, round 36 and lane 4294967295"},
+    {3, RASPPUCE_LAST_ROUND + 1, UINT32_MAX, RASPPUCE_CALL, "call 3, round 37 and lane 4294967295"},
 };
 
 /* Words that make no body, the first refusal of each, and how a log would say it. */
@@ -818,9 +917,9 @@ static void refusals(void)
     save_odd(257);
     refused(rasppuce_seal(LEND(sender), LEND(odd), LEND(tape), LEND(plain_record), LEND(tag_shares)),
             RASPPUCE_MESSAGE, "a message of 257 bytes");
-    save_odd(2303);
+    save_odd(2367);
     refused(rasppuce_seal(LEND(sender), NULL, 0, LEND(odd), LEND(plain_record), LEND(tag_shares)),
-            RASPPUCE_TAPE, "an empty message with a tape of 2303");
+            RASPPUCE_TAPE, "an empty message with a tape of 2367");
     save_odd(record_len - 1);
     refused(rasppuce_seal(LEND(sender), LEND(message), LEND(tape), LEND(odd), LEND(tag_shares)),
             RASPPUCE_OUTPUT, "a record one byte too short");
@@ -880,7 +979,11 @@ static void play(void)
     out_of_turn();
     printf("reports\n");
     report(0, 1, 1);
-    report(32, 6, 35);
+    report(32, 6, RASPPUCE_LAST_ROUND - 1);
+    report(32, 6, RASPPUCE_LAST_ROUND);
+    report_outputs(0);
+    report_outputs(40);
+    report_outputs(RASPPUCE_MESSAGE_MOST);
     printf("block cipher\n");
     blocks();
     printf("bodies\n");

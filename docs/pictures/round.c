@@ -12,6 +12,10 @@
 
 enum { LANE = 1, SHARES = RASPPUCE_LAST_LANE + 1 };
 
+/* Pairs of masks in a call: of its rounds, and of its output. */
+#define PAIRS  RASPPUCE_LAST_ROUND
+#define ROUNDS (PAIRS - 1u)
+
 /* Across: three columns alike, each a stack of boxes with what goes in at its right. */
 enum { LEFT = 24, PITCH = 288, WIDE = 144, SIDE = 164, SIDE_WIDE = 118, SIDE_SMALL = 94 };
 
@@ -158,7 +162,8 @@ static void draw_words(int y)
     text(LEFT, y + 20, START, NOTE,
          "The next round begins with its own u into share 0, v into share 1, u XOR v into share 2.");
     text(LEFT, y + 40, START, NOTE,
-         say("After round %u the three shares are those of the call's output.", RASPPUCE_LAST_ROUND));
+         say("After round %u pair %u goes into the three shares alike, and these are the call's output.",
+             ROUNDS, PAIRS));
     draw_key(y + 72, MARKED,
              say("Lane %d. A probe at it sees %u bytes: masked shares %d and %d, and key share %d as the"
                  " round adds it.", LANE, RASPPUCE_LANE_BYTES, next(LANE), next(next(LANE)), LANE));
@@ -182,7 +187,7 @@ void draw_round(void)
                       LANE, next(LANE), next(next(LANE)), LANE, RASPPUCE_LANE_BYTES));
     text(LEFT, 36, START, HEADING, "A round on three shares");
     box(8, FRAME, 884, FRAME_END - FRAME, PALE);
-    text(LEFT + SIDE, FRAME - 8, START, NOTE, say("round r, 1 to %u", RASPPUCE_LAST_ROUND));
+    text(LEFT + SIDE, FRAME - 8, START, NOTE, say("round r, 1 to %u", ROUNDS));
     for (int share = 0; share < SHARES; share++)
         draw_masking(share);
     draw_ways();

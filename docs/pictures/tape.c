@@ -1,9 +1,11 @@
-/* The bytes of a tape: the masks of the keys, then of each round of each call. */
+/* The bytes of a tape: the masks of the keys, then those of each call, of its rounds and of its output. */
 #include "draw.h"
 #include "rasppuce.h"
 #include "svg.h"
 
-#define CALL_BYTES  (RASPPUCE_ROUND_MASKS_BYTES * RASPPUCE_LAST_ROUND)
+#define PAIRS       RASPPUCE_LAST_ROUND /* of masks in a call: of its rounds, and of its output */
+#define ROUNDS      (PAIRS - 1u)
+#define CALL_BYTES  (RASPPUCE_ROUND_MASKS_BYTES * PAIRS)
 #define MASK_BYTES  RASPPUCE_BLOCK_BYTES
 #define BLOCKS_MOST ((RASPPUCE_MESSAGE_MOST + RASPPUCE_BLOCK_BYTES - 1u) / RASPPUCE_BLOCK_BYTES)
 
@@ -85,22 +87,31 @@ static void draw_key_masks(int y)
     text(LEFT, y + HIGH + 44, START, NOTE, "share 0 gets c, 1 gets d, 2 gets c XOR d.");
 }
 
-/* The rounds of any call, with one of them marked. */
-static void draw_call(int y)
+/* Where a call's pairs begin in the picture: round 1, dots, r, dots, the last round, output; and its end. */
+static const int pair_edges[] = { CALL_LEFT, 508, 552, 640, 684, 772, RIGHT };
+
+/* One pair of masks. */
+static void draw_pair(int pair, int y, enum look look, const char *name)
 {
-    int x = CALL_LEFT;
-    label(x, y - 34, 340, NOTE, "any call k");
-    text(x, y - 8, START, SMALL, call_place("(k-1)"));
-    text(RIGHT, y - 8, END, SMALL, call_place("k"));
-    box2(x, y, 100, HIGH, PLAIN, "round 1", say("%u bytes", RASPPUCE_ROUND_MASKS_BYTES));
-    dots(x + 100, y, 65, HIGH);
-    box2(x + 165, y, 110, HIGH, MARKED, "round r", say("%u bytes", RASPPUCE_ROUND_MASKS_BYTES));
-    dots(x + 275, y, 65, HIGH);
-    box2(x + 340, y, 100, HIGH, PLAIN, say("round %u", RASPPUCE_LAST_ROUND),
+    box2(pair_edges[pair], y, pair_edges[pair + 1] - pair_edges[pair], HIGH, look, name,
          say("%u bytes", RASPPUCE_ROUND_MASKS_BYTES));
 }
 
-/* The two masks of the marked round. */
+/* The pairs of any call, with one round's marked. */
+static void draw_call(int y)
+{
+    label(CALL_LEFT, y - 34, 340, NOTE, "any call k");
+    text(CALL_LEFT, y - 8, START, SMALL, call_place("(k-1)"));
+    text(RIGHT, y - 8, END, SMALL, call_place("k"));
+    draw_pair(0, y, PLAIN, "round 1");
+    dots(pair_edges[1], y, pair_edges[2] - pair_edges[1], HIGH);
+    draw_pair(2, y, MARKED, "round r");
+    dots(pair_edges[3], y, pair_edges[4] - pair_edges[3], HIGH);
+    draw_pair(4, y, PLAIN, say("round %u", ROUNDS));
+    draw_pair(5, y, PLAIN, "output");
+}
+
+/* The two masks of the marked round, and where the output's go. */
 static void draw_round_masks(int y)
 {
     int x = CALL_LEFT, wide = (RIGHT - CALL_LEFT) / 2;
@@ -111,6 +122,8 @@ static void draw_round_masks(int y)
     box2(x + wide, y, wide, HIGH, MARKED, "v", say("%u bytes", MASK_BYTES));
     text(x, y + HIGH + 24, START, NOTE, "At the round's start, into the shares of the state:");
     text(x, y + HIGH + 44, START, NOTE, "share 0 gets u, 1 gets v, 2 gets u XOR v.");
+    text(x, y + HIGH + 64, START, NOTE,
+         say("After round %u, the output's pair (r = %u) in the same way.", ROUNDS, PAIRS));
 }
 
 /* ---- how long it is */
@@ -121,7 +134,7 @@ static void draw_need(int y, const char *message, unsigned length)
     unsigned blocks = (length + RASPPUCE_BLOCK_BYTES - 1u) / RASPPUCE_BLOCK_BYTES;
     text(LEFT, y, START, NOTE, say("%s, %u bytes:", message, length));
     text(LEFT + 280, y, START, NOTE, say("n = %u, %u calls", blocks, RASPPUCE_CALLS(length)));
-    text(LEFT + 540, y, END, NOTE, say("%u bytes of tape", RASPPUCE_TAPE_BYTES(length)));
+    text(LEFT + 580, y, END, NOTE, say("%u bytes of tape", RASPPUCE_TAPE_BYTES(length)));
 }
 
 /* What the shortest and the longest message need. */
@@ -139,11 +152,12 @@ static void draw_needs(int y)
 void draw_tape(void)
 {
     enum { WHOLE = 128, PARTS = 254, MASKS = 362 };
-    begin_picture(900, 568, "The bytes of a tape",
-                  say("A tape is %u bytes of key masks, then for each call %u rounds of %u bytes: two masks"
-                      " u and v. Calls 1 to n make the key stream, call n+1 the subkeys, calls n+2 to 2n+2"
-                      " the tag. The longest message needs %u bytes.", RASPPUCE_KEY_MASKS_BYTES,
-                      RASPPUCE_LAST_ROUND, RASPPUCE_ROUND_MASKS_BYTES,
+    begin_picture(900, 588, "The bytes of a tape",
+                  say("A tape is %u bytes of key masks, then for each call %u pairs of %u bytes: two masks"
+                      " u and v for each of %u rounds, and two for the output. Calls 1 to n make the key"
+                      " stream, call n+1 the subkeys, calls n+2 to 2n+2 the tag. The longest message needs"
+                      " %u bytes.",
+                      RASPPUCE_KEY_MASKS_BYTES, PAIRS, RASPPUCE_ROUND_MASKS_BYTES, ROUNDS,
                       RASPPUCE_TAPE_BYTES(RASPPUCE_MESSAGE_MOST)));
     text(LEFT, 36, START, HEADING, "A tape");
     draw_purposes(WHOLE - 62);
@@ -152,8 +166,8 @@ void draw_tape(void)
     draw_zoom(edges[4], edges[5], WHOLE + HIGH, CALL_LEFT, RIGHT, PARTS - 24, PLAIN);
     draw_key_masks(PARTS);
     draw_call(PARTS);
-    draw_zoom(CALL_LEFT + 165, CALL_LEFT + 275, PARTS + HIGH, CALL_LEFT, RIGHT, MASKS - 24, MARKED);
+    draw_zoom(pair_edges[2], pair_edges[3], PARTS + HIGH, CALL_LEFT, RIGHT, MASKS - 24, MARKED);
     draw_round_masks(MASKS);
-    draw_needs(486);
+    draw_needs(506);
     end_picture();
 }

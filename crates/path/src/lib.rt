@@ -124,8 +124,8 @@ pub fn run(link: Sender, message: &[u8], tape: &[u8], watch: Watch, outs: &mut [
     let given_m = link.km;
     let ke = mask_key(given_e, tape, 0);
     let km = mask_key(given_m, tape, ke.used);
-    let e = ke.shares;
-    let m = km.shares;
+    let e = ke.key;
+    let m = km.key;
     let none = only([0; 4]);
     let start = Walk {
         out: none,

@@ -1,5 +1,4 @@
 // The calls of a run on shares, one after the other; one pair of masks of one call is watched.
-use shares::Masked;
 use shares::Triple;
 use shares::pack_shares;
 ghost use mathlib.Core.Path.{_≡_};
@@ -71,11 +70,21 @@ pub fn step(w: Walk, key: Triple, input: Triple, tape: &[u8], watch: Watch) -> W
     }
 }
 
+// A key's shares, masked, and the count of tape bytes read with the masks.
+pub struct Masked {
+    pub key: Triple,
+    pub used: usize,
+}
+
 // Key shares with the next pair of masks: c, d and c XOR d.
 pub fn mask_key(key: [u8; 48], tape: &[u8], used: usize) -> Masked
     requires { ⌜ used + pairSize ≤ length (now tape) ⌝ }
-    ensures keyed { λ r. ⌜ sharesOf (r .shares) ≡ addShares (sharesIn key) (masksAt (at (now (tape .entry))) used) ⌝ }
+    ensures keyed { λ r. ⌜ sharesOf (r .key) ≡ addShares (sharesIn key) (masksAt (at (now (tape .entry))) used) ⌝ }
     ensures counted { λ r. ⌜ r .used ≡ used + pairSize ⌝ }
 {
-    shares::mask(pack_shares(key), tape, used)
+    let pair = shares::draw(tape, used);
+    Masked {
+        key: shares::mask(pack_shares(key), pair),
+        used: pair.used,
+    }
 }

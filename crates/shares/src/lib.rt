@@ -121,20 +121,6 @@ fn share_round(s: Triple, k: Triple, n: usize) -> Triple
     }
 }
 
-// The masks u, v and u XOR v, one into each share.
-fn add_masks(s: Triple, u: [u32; 4], v: [u32; 4]) -> Triple
-    ensures { λ r. ⌜ sharesOf r ≡ addShares (sharesOf s) (spread (unpacked u) (unpacked v)) ⌝ }
-{
-    let a = s.a;
-    let b = s.b;
-    let c = s.c;
-    Triple {
-        a: add(a, u),
-        b: add(b, v),
-        c: add(c, add(u, v)),
-    }
-}
-
 // Share by share.
 pub fn add_shares(s: Triple, t: Triple) -> Triple
     ensures { λ r. ⌜ sharesOf r ≡ addShares (sharesOf s) (sharesOf t) ⌝ }
@@ -184,10 +170,9 @@ pub struct Drawn {
 }
 
 // The next pair of masks of the tape.
-fn draw(tape: &[u8], used: usize) -> Drawn
+pub fn draw(tape: &[u8], used: usize) -> Drawn
     requires { ⌜ used + pairSize ≤ length (now tape) ⌝ }
-    ensures first { λ r. ⌜ unpacked (r .u) ≡ at (now (tape .entry)) used ⌝ }
-    ensures second { λ r. ⌜ unpacked (r .v) ≡ at (now (tape .entry)) (used + 16) ⌝ }
+    ensures masks { λ r. ⌜ spread (unpacked (r .u)) (unpacked (r .v)) ≡ masksAt (at (now (tape .entry))) used ⌝ }
     ensures counted { λ r. ⌜ r .used ≡ used + pairSize ⌝ }
 {
     Drawn {
@@ -197,24 +182,19 @@ fn draw(tape: &[u8], used: usize) -> Drawn
     }
 }
 
-// Shares with masks added, and the count of tape bytes read.
-pub struct Masked {
-    pub shares: Triple,
-    pub used: usize,
-}
-
-// The next pair of masks of the tape, added to shares.
-pub fn mask(s: Triple, tape: &[u8], used: usize) -> Masked
-    requires { ⌜ used + pairSize ≤ length (now tape) ⌝ }
-    ensures added { λ r. ⌜ sharesOf (r .shares) ≡ addShares (sharesOf s) (masksAt (at (now (tape .entry))) used) ⌝ }
-    ensures counted { λ r. ⌜ r .used ≡ used + pairSize ⌝ }
+// The masks u, v and u XOR v of a pair, one into each share.
+pub fn mask(s: Triple, pair: Drawn) -> Triple
+    ensures { λ r. ⌜ sharesOf r ≡ addShares (sharesOf s) (spread (unpacked (pair .u)) (unpacked (pair .v))) ⌝ }
 {
-    let pair = draw(tape, used);
+    let a = s.a;
+    let b = s.b;
+    let c = s.c;
     let u = pair.u;
     let v = pair.v;
-    Masked {
-        shares: add_masks(s, u, v),
-        used: pair.used,
+    Triple {
+        a: add(a, u),
+        b: add(b, v),
+        c: add(c, add(u, v)),
     }
 }
 
@@ -239,11 +219,11 @@ fn run_rounds(s: Triple, k: Triple, tape: &[u8], used: usize, from: usize, to: u
     let mut n = from;
     while n < to {
         let turned = rotate_shares(key);
-        let met = mask(share_round(state, turned, n), tape, read);
-        let next = met.shares;
-        state = next;
+        let pair = draw(tape, read);
+        let met = mask(share_round(state, turned, n), pair);
+        state = met;
         key = turned;
-        read = met.used;
+        read = pair.used;
         n += 1;
     }
     Progress {
@@ -276,8 +256,8 @@ pub fn call(key: Triple, input: Triple, tape: &[u8], used: usize, n: usize) -> C
     requires { ⌜ (1 ≤ n) × (n ≤ pairCount) × (used + callSize ≤ length (now tape)) ⌝ }
     ensures { λ r. ⌜ CallDone (sharesOf key) (sharesOf input) (at (now (tape .entry))) used n r ⌝ }
 {
-    let first = mask(add_shares(input, key), tape, used);
-    let start = first.shares;
+    let first = draw(tape, used);
+    let start = mask(add_shares(input, key), first);
     let done = n - 1;
     let shown = run_rounds(start, key, tape, first.used, 0, done);
     let state = shown.state;

@@ -35,7 +35,7 @@ ctr-calls-requires c κs =
 
 -- CMAC's key is masked with the second pair
 masked : (k : fn.Tie.After-mask-key2) → let a = start k .args in
-    sharesOf (k .mask-key2 .result .shares) ≡ add (sharesIn (a .link .km)) (masksAt (at (a .tape .now)) pairSize)
+    sharesOf (k .mask-key2 .result .key) ≡ add (sharesIn (a .link .km)) (masksAt (at (a .tape .now)) pairSize)
 masked k =
     let a = start k .args in
     k .mask-key2 .ensures .0 ∙ ap (λ (p : ℕ). add (sharesIn (a .link .km)) (masksAt (at (a .tape .now)) p))

@@ -1,15 +1,15 @@
--- `mask` meets its contract: the pair drawn is added. Assumes nothing.
-use Rattle.prelude.proofs.{_∙_, needs}
-use Rattle.masking.specs.Shares.{add, spread}
-use Rattle.shares.specs.Packed.{sharesOf}
+-- `mask` meets its contract, share by share. Assumes nothing.
+use Rattle.prelude.proofs.{ap, _∙_, List, ℕ, needs}
+use Rattle.blocks.specs.Bytes.{_⊕_}
+use Rattle.words.specs.Words.{unpacked}
+use Rattle.masking.proofs.Shape.{shares-same}
 use Rattle.shares.proofs.mask as fn
 
 returns : fn.Tie.Need-returns
 returns c =
-    let d = c .before .before .before in
-    let e = d .draw .ensures in
-    let s = d .before .before .args .s in
-    (c .add-masks .ensures ∙ λ i. add (sharesOf s) (spread (e .0 i) (e .1 .0 i)), e .1 .1)
+    let s = c .before .before .before .before .before .before .before .before .before .args .s in
+    shares-same (c .before .before .before .add .ensures) (c .before .before .add2 .ensures)
+    (c .add4 .ensures ∙ ap (λ (z : List ℕ). unpacked (s .c) ⊕ z) (c .before .add3 .ensures))
 
 pub mask-spec : {M : Type 1} → fn.Statement.statement M
-mask-spec = fn.Tie.close (fn.Tie.spec (λ c κs. search needs) (λ c κs. search needs) returns)
+mask-spec = fn.Tie.close (fn.Tie.spec (λ c κs. search needs) (λ c κs. search needs) (λ c κs. search needs) (λ c κs. search needs) returns)

@@ -1,7 +1,7 @@
 -- `run_rounds` meets its contract. The loop has done the rounds up to the one numbered n. Assumes nothing.
 use Rattle.prelude.proofs.{_≡_, sym, ap, _∙_, ℕ, suc, _+_, _-_, _*_, _≤_, arith, needs}
 use Rattle.baksheesh.specs.Baksheesh.{rotated}
-use Rattle.masking.specs.Shares.{each, at, pairSize}
+use Rattle.masking.specs.Shares.{add, each, at, pairSize}
 use Rattle.shares.specs.Packed.{sharesOf, onward}
 use Rattle.shares.proofs.Onward.{packed-blocks, turned-none, onward-none, onward-more}
 use Rattle.shares.proofs.run_rounds as fn
@@ -27,19 +27,22 @@ loop-holds c =
 
 loop-again : fn.Tie.Need-loop-again Inv-loop μ-loop
 loop-again c =
-    let m = c .before in
-    let t = m .before .before in
-    let l = t .before .before .loop in
-    let a = t .before .before .before .before .args in
+    let r = c .before in
+    let d = r .before in
+    let k = d .before in
+    let l = k .before .before .loop in
+    let a = k .before .before .before .before .args in
     let n : ℕ = l .n - a .from in
+    let M = at (a .tape .now) in
     let more : suc n ≡ l .n + 1 - a .from = omega arith in
-    let went = onward-more (at (a .tape .now)) (a .used) (a .from) (sharesOf (a .s)) (sharesOf (a .k)) n (l .n) (l .read) _ _ _ _ _
-    (l .inv .2) (l .inv .3) (t .rotate-shares .ensures) (omega arith) (m .before .share-round .ensures) (l .inv .4) (m .mask .ensures .0) in (
+    let masked = c .mask .ensures ∙ ap (add _) (d .draw .ensures .0) in
+    let went = onward-more M (a .used) (a .from) (sharesOf (a .s)) (sharesOf (a .k)) n (l .n) (l .read) _ _ _ _ _
+    (l .inv .2) (l .inv .3) (k .rotate-shares .ensures) (omega arith) (r .share-round .ensures) (l .inv .4) masked in (
       omega arith,
       omega arith,
-      went .0 ∙ ap (onward (at (a .tape .now)) (a .used) (a .from) (sharesOf (a .s)) (sharesOf (a .k))) more,
+      went .0 ∙ ap (onward M (a .used) (a .from) (sharesOf (a .s)) (sharesOf (a .k))) more,
       went .1 ∙ ap (λ (n : ℕ). each (rotated n) (sharesOf (a .k))) more,
-      omega (arith, m .mask .ensures .1, l .inv .4),
+      omega (arith, d .draw .ensures .1, l .inv .4),
     )
 
 returns : fn.Tie.Need-returns Inv-loop μ-loop
@@ -55,4 +58,4 @@ returns c =
 
 pub run-rounds-spec : {M : Type 1} → fn.Statement.statement M
 run-rounds-spec = fn.Tie.close (fn.Tie.spec Inv-loop μ-loop loop-holds (λ c κs. search needs) (λ c κs. omega arith) (λ c κs. omega arith)
-    (λ c. omega arith) (λ c. omega arith) loop-again returns)
+    (λ c κs. search needs) (λ c. omega arith) (λ c. omega arith) loop-again returns)
