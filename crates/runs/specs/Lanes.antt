@@ -18,7 +18,7 @@ Within a b n = (a ≤ n) × (n ≤ b)
 abbrev pub laneSize : ℕ
 laneSize = 48
 
--- the causes of a report with room for o bytes: of lane i of round r, where a call has p rounds
+-- the causes of a report with room for o bytes: of lane i of round r, where a call shows p rounds
 abbrev pub roundCauses : ℕ → ℕ → ℕ → ℕ → List Cause
 roundCauses p r i o = (33 when not (within 1 p r)) ∷ (34 when not (within 0 2 i)) ∷ (4 when ltb o laneSize) ∷ []
 
