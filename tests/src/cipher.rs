@@ -143,10 +143,13 @@ pub fn encrypt(key: &Block, block: &Block) -> Block {
     steps(key, block, |_, _| ())
 }
 
-/// For each round the state on entering it, and the key added at its end.
+/// For each round the state on entering it, and the key added at its end; then the ciphertext, with
+/// the last of these keys once more.
 pub fn rounds(key: &Block, block: &Block) -> Vec<(Block, Block)> {
     let mut seen = Vec::new();
-    steps(key, block, |state, key| seen.push((block_of(state), block_of(key))));
+    let ciphertext = steps(key, block, |state, key| seen.push((block_of(state), block_of(key))));
+    let last_key = seen[ROUNDS - 1].1;
+    seen.push((ciphertext, last_key));
     seen
 }
 

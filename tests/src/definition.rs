@@ -7,7 +7,7 @@ use crate::cipher::{self, Block, CONSTANTS, PERMUTATION, ROUNDS, SBOX};
 use crate::hex;
 use crate::links::{self, Window};
 use crate::modes;
-use crate::shares;
+use crate::shares::{self, Shares, PAIRS};
 use crate::tally::Tally;
 
 pub fn tables(tally: &mut Tally) {
@@ -163,10 +163,17 @@ pub fn shares(tally: &mut Tally) {
             let output = cipher::encrypt(key, input);
             tally.same(format_args!("call {}, joined", k + 1), &shares::join(&call.output), &output);
             let rounds = cipher::rounds(key, input);
-            for r in 0..ROUNDS {
+            for r in 0..PAIRS {
                 let state = shares::join(&std::array::from_fn(|i| call.rounds[r].state_share(i)));
                 tally.same(format_args!("call {}, round {}, joined", k + 1, r + 1), &state, &rounds[r].0);
             }
+            // The output is the last of the rounds, with the key of the one before it.
+            let (ciphertext, last_key) = rounds[PAIRS - 1];
+            tally.same(format_args!("call {}, plain output", k + 1), &ciphertext, &output);
+            let rotated = u128::from_be_bytes(*key).rotate_right(ROUNDS as u32).to_be_bytes();
+            tally.same(format_args!("call {}, plain key of the output", k + 1), &last_key, &rotated);
+            let shown: Shares = std::array::from_fn(|i| call.rounds[PAIRS - 1].state_share(i));
+            tally.same(format_args!("call {}, output shares", k + 1), &shown.concat(), &call.output.concat());
         }
         let mut record = vec![0; length + links::ADDED];
         let mut shares = vec![0; links::SHARES];
@@ -177,7 +184,7 @@ pub fn shares(tally: &mut Tally) {
     }
 }
 
-/// Values that are set: doubling, the tape's need, and bodies.
+/// Values that are set: doubling, the tape's need and where masks stand in it, and bodies.
 pub fn values(tally: &mut Tally) {
     let mut top = [0; 16];
     top[0] = 0x80;
@@ -189,11 +196,16 @@ pub fn values(tally: &mut Tally) {
         let twice = (one << 1).to_be_bytes();
         tally.same(format_args!("bit {bit} alone, doubled"), &modes::doubled(&one.to_be_bytes()), &twice);
     }
-    for (length, need) in [(0, 2304), (1, 4544), (16, 4544), (17, 6784), (256, 38_144)] {
-        tally.same_number(format_args!("tape for {length} bytes"), shares::tape_need(length) as u32, need);
-        let tape = vec![0; need as usize];
+    for (length, need) in links::NEEDS {
+        let own_need = shares::tape_need(length) as u32;
+        tally.same_number(format_args!("tape for {length} bytes"), own_need, need as u32);
+        let tape = vec![0; need];
         let used = shares::seal(1, 1, &[[0; 16]; 3], &[[0; 16]; 3], &vec![0; length], &tape).used;
-        tally.same_number(format_args!("tape read for {length} bytes"), used as u32, need);
+        tally.same_number(format_args!("tape read for {length} bytes"), used as u32, need as u32);
+    }
+    for (call, pair, place) in [(1, 1, 64), (1, 35, 1152), (1, 36, 1184), (2, 1, 1216), (34, 36, 39_200)] {
+        let at = shares::masks_at(call, pair) as u32;
+        tally.same_number(format_args!("where pair {pair} of call {call} stands"), at, place);
     }
     written_bodies(tally);
     read_bodies(tally);

@@ -3,7 +3,7 @@
 
 use crate::body::{self, Mark, BAD_LENGTH, BAD_WORD, MISSING_KIND};
 use crate::cipher::{self, Block};
-use crate::held::LENGTHS;
+use crate::held::{LENGTHS, ROUNDS_SHOWN};
 use crate::hex::Hex;
 use crate::links::{
     self, Window, ADDED, BAD_RECORD, BELOW_WINDOW, LANE, OTHER_LINK, REPEATED, SHARES, WRONG_TAG,
@@ -496,13 +496,14 @@ impl Shared {
         self.put_lanes(&sender, &tape);
     }
 
-    /// Lanes of the first round and of the last, in the first call, that of the subkeys and the last.
+    /// Lanes of the first round, of the last and of the output, in the first call, that of the subkeys
+    /// and the last.
     fn put_lanes(&self, sender: &[u8], tape: &[u8]) {
         let last = shares::call_count(self.message.len()) as u32;
         let mut calls = vec![1, last / 2, last];
         calls.dedup();
         for call in calls {
-            for round in [1, 35] {
+            for round in ROUNDS_SHOWN {
                 for lane in 0..3 {
                     let mut out = [0; LANE];
                     let answer = links::report(sender, &self.message, tape, call, round, lane, &mut out);

@@ -24,12 +24,13 @@ extern "C" {
 }
 
 /// What the file has to have: records with messages of these lengths, records opened so far above the
-/// highest number or below it, bodies with these offsets, and these refusals.
+/// highest number or below it, bodies with these offsets, these refusals, and lanes of these rounds.
 pub const LENGTHS: [usize; 10] = [0, 1, 15, 16, 17, 31, 32, 33, 255, 256];
 const ABOVE: [i64; 6] = [-63, -1, 1, 32, 63, 64];
 const OFFSETS: [&str; 5] = ["none", "-720", "-1", "0", "840"];
 const REFUSALS: [u32; 5] = [BAD_RECORD, OTHER_LINK, BELOW_WINDOW, REPEATED, WRONG_TAG];
 const BODY_REFUSALS: [u32; 3] = [BAD_LENGTH, BAD_WORD, MISSING_KIND];
+pub const ROUNDS_SHOWN: [u32; 3] = [1, 35, 36];
 
 type Checks = fn(&mut Tally, &Group) -> Result<(), String>;
 
@@ -92,8 +93,13 @@ fn enough(tally: &mut Tally, groups: &[Group]) {
         let found = has("refused_body", &|group| group.number("answer") == Ok(answer));
         tally.same_flag(format_args!("a body refused with {answer}"), found, true);
     }
-    let found = has("shared", &|group| group.lanes().is_ok_and(|lanes| !lanes.is_empty()));
-    tally.same_flag(format_args!("a sealing on shares with a lane"), found, true);
+    for round in ROUNDS_SHOWN {
+        let shows = |group: &Group| {
+            group.lanes().is_ok_and(|lanes| lanes.iter().any(|([_, shown, _], _)| *shown == round))
+        };
+        let found = has("shared", &shows);
+        tally.same_flag(format_args!("a sealing on shares with a lane of round {round}"), found, true);
+    }
 }
 
 /// An output before a call.

@@ -6,9 +6,9 @@ use crate::links::{
     self, Sender, BAD_CALL, BAD_LANE, BAD_ROUND, LANE, LONG_MESSAGE, NOT_KEYED, NUMBERS_USED, SENDER,
     SENDER_KEYS, SHARES, SHORT_OUTPUT, SHORT_TAPE,
 };
-use crate::modes::xor_blocks;
+use crate::modes::{self, xor_blocks};
 use crate::sealing::Seal;
-use crate::shares::{self, Lane};
+use crate::shares::{self, Lane, PAIRS};
 use crate::tally::Tally;
 
 extern "C" {
@@ -114,9 +114,9 @@ pub fn every_lane(tally: &mut Tally) {
         );
         for (k, call) in sealing.calls.iter().enumerate() {
             let plain_rounds = cipher::rounds(&plain[k].0, &plain[k].1);
-            // What the round before made of each share, of its lane alone.
-            let mut made: Option<[Block; 3]> = None;
-            for r in 0..ROUNDS {
+            // The lanes of the round before.
+            let mut earlier: Option<Vec<Lane>> = None;
+            for r in 0..PAIRS {
                 let what = format!("{length} bytes, call {}, round {}", k + 1, r + 1);
                 let mut lanes = Vec::new();
                 for lane in 0..3 {
@@ -126,17 +126,25 @@ pub fn every_lane(tally: &mut Tally) {
                 }
                 let lanes: Vec<Lane> = lanes.into_iter().map(|lane| lane.try_into().unwrap()).collect();
                 hold_joined(tally, &what, &lanes, &plain_rounds[r]);
-                if let Some(made) = made {
-                    hold_masks(tally, &what, &lanes, &made, &good.tape[shares::masks_at(k + 1, r + 1)..]);
+                if let Some(earlier) = earlier {
+                    hold_onward(tally, &what, &lanes, &earlier, r, &masks(&good.tape, k + 1, r + 1));
                 }
-                made = Some(std::array::from_fn(|i| shares::share_of_lane(i, r + 1, &lanes[i])));
+                earlier = Some(lanes);
             }
         }
     }
 }
 
+/// The masks of a round's pair, one for each share.
+fn masks(tape: &[u8], call: usize, round: usize) -> [Block; 3] {
+    let at = shares::masks_at(call, round);
+    let (u, v) = (tape[at..at + 16].try_into().unwrap(), tape[at + 16..at + 32].try_into().unwrap());
+    [u, v, xor_blocks(&u, &v)]
+}
+
 /// A round's lanes: a state share stands in two of them with the same bytes; the state shares
-/// join to the plain cipher's state on entering the round, the key shares to the key it adds.
+/// join to the plain cipher's state on entering the round, the key shares to the key it adds. In
+/// round 36 they join to the ciphertext and to the key of round 35.
 fn hold_joined(tally: &mut Tally, what: &str, lanes: &[Lane], plain: &(Block, Block)) {
     let parts: Vec<[Block; 3]> = lanes.iter().map(shares::lane_parts).collect();
     for i in 0..3 {
@@ -148,22 +156,36 @@ fn hold_joined(tally: &mut Tally, what: &str, lanes: &[Lane], plain: &(Block, Bl
     tally.same(format_args!("joined key, {what}"), &key, &plain.1);
 }
 
-/// A round's lanes are what the round before made of each share, with this round's masks.
-fn hold_masks(tally: &mut Tally, what: &str, lanes: &[Lane], made: &[Block; 3], masks: &[u8]) {
-    let (u, v): (Block, Block) = (masks[..16].try_into().unwrap(), masks[16..32].try_into().unwrap());
-    for (i, mask) in [u, v, xor_blocks(&u, &v)].iter().enumerate() {
+/// A round's lanes are what the round before, whose number is `before`, made of each share, of its lane
+/// alone, with this round's masks. Each key share is that of the round before, rotated; after round 35
+/// it stays as it is.
+fn hold_onward(
+    tally: &mut Tally,
+    what: &str,
+    lanes: &[Lane],
+    earlier: &[Lane],
+    before: usize,
+    masks: &[Block; 3],
+) {
+    for i in 0..3 {
         // Share i stands first in lane i - 1.
         let share = &lanes[(i + 2) % 3][..16];
+        let made = shares::share_of_lane(i, before, &earlier[i]);
         tally.same(
             format_args!("share {i} from the round before, {what}"),
             share,
-            &xor_blocks(&made[i], mask),
+            &xor_blocks(&made, &masks[i]),
         );
+        let [.., key] = shares::lane_parts(&earlier[i]);
+        let turns = if before == ROUNDS { 0 } else { 1 };
+        let key = u128::from_be_bytes(key).rotate_right(turns).to_be_bytes();
+        tally.same(format_args!("key share {i} from the round before, {what}"), &lanes[i][32..], &key);
     }
 }
 
-/// The tag shares that a sealing returns are what round 35 makes of the lanes that the report
-/// shows of its last call.
+/// The tag shares that a sealing returns are what round 35 makes of the lanes that the report shows of
+/// its last call, each with its mask of pair 36. They are the state shares that round 36 shows, two in
+/// each lane.
 pub fn tag_shares(tally: &mut Tally) {
     for length in links::EDGES {
         let good = good(tally, length, 1);
@@ -175,14 +197,65 @@ pub fn tag_shares(tally: &mut Tally) {
             shares: vec![0; SHARES],
         };
         let sealed = hold_answer(tally, &seal, 0, length).left.shares;
-        for lane in 0..3 {
-            let last = shares::call_count(length) as u32;
-            let call = Report { call: last, round: 35, lane, ..good.clone() };
+        let returned = |i: usize| &sealed[16 * (i % 3)..][..16];
+        let last = shares::call_count(length);
+        let masks = masks(&good.tape, last, 36);
+        for i in 0..3 {
+            let call = Report { call: last as u32, round: 35, lane: i as u32, ..good.clone() };
             let out = hold_answer(tally, &call, 0, length).left.out;
-            let lane = lane as usize;
-            let share = shares::share_of_lane(lane, ROUNDS, &out.try_into().unwrap());
-            let returned = &sealed[16 * lane..16 * lane + 16];
-            tally.same(format_args!("tag share {lane}, {length} bytes"), returned, &share);
+            let made = shares::share_of_lane(i, 35, &out.try_into().unwrap());
+            let share = xor_blocks(&made, &masks[i]);
+            tally.same(format_args!("tag share {i}, {length} bytes"), returned(i), &share);
+            let out = hold_answer(tally, &Report { round: 36, ..call }, 0, length).left.out;
+            let two = [returned(i + 1), returned(i + 2)].concat();
+            tally.same(format_args!("tag shares in lane {i}, {length} bytes"), &out[..32], &two);
+        }
+    }
+}
+
+/// The masks on a call's output stay in its shares in the later call that takes them: with another pair
+/// 36, round 1 of that call shows the state shares changed as the masks are. A call of the key stream
+/// is taken by that of its block, cut to the block's bytes; the subkeys by the last one, doubled; a call
+/// of the chain by the next.
+pub fn later_calls(tally: &mut Tally) {
+    for length in [0, 1, 15, 16, 17, 48] {
+        let first = good(tally, length, 5);
+        let blocks = length.div_ceil(16);
+        let last = shares::call_count(length);
+        for call in 1..last {
+            let mut other = first.clone();
+            put(&mut other.tape, shares::masks_at(call, 36), &tally.random_for(call).bytes(32));
+            let (old, new) = (masks(&first.tape, call, 36), masks(&other.tape, call, 36));
+            let change = |i: usize| -> Block {
+                let mut change = xor_blocks(&old[i % 3], &new[i % 3]);
+                if call <= blocks {
+                    let size = length - 16 * (call - 1);
+                    change.iter_mut().skip(size).for_each(|byte| *byte = 0);
+                } else if call == blocks + 1 {
+                    change = modes::doubled(&change);
+                    if length % 16 != 0 {
+                        change = modes::doubled(&change);
+                    }
+                }
+                change
+            };
+            let taker = match call {
+                _ if call <= blocks => blocks + 2 + call,
+                _ if call == blocks + 1 => last,
+                _ => call + 1,
+            };
+            for lane in 0..3 {
+                let at = |report: &Report| Report { call: taker as u32, lane, ..report.clone() };
+                let shown = hold_answer(tally, &at(&first), 0, call).left.out;
+                let changed = hold_answer(tally, &at(&other), 0, call).left.out;
+                let lane = lane as usize;
+                let changes = [change(lane + 1), change(lane + 2), [0; 16]].concat();
+                tally.same(
+                    format_args!("call {taker} with other masks on call {call}, {length} bytes, lane {lane}"),
+                    &changed,
+                    &modes::xor(&shown, &changes),
+                );
+            }
         }
     }
 }
@@ -196,12 +269,12 @@ pub fn ranges(tally: &mut Tally) {
         for call in
             [0, 1, 2, calls - 1, calls, calls + 1, calls + 2, 256 + 1, 65_536 + 1, 0x8000_0001, u32::MAX]
         {
-            for round in [0, 1, 2, 34, 35, 36, 37, 256 + 1, 65_536 + 1, 0x8000_0001, u32::MAX] {
+            for round in [0, 1, 2, 34, 35, 36, 37, 38, 256 + 1, 65_536 + 1, 0x8000_0001, u32::MAX] {
                 for lane in [0, 1, 2, 3, 4, 256, 65_536, 0x8000_0000, u32::MAX] {
                     let answer = match (call, round, lane) {
                         _ if !(1..=calls).contains(&call) => BAD_CALL,
-                        (_, 1..=35, 0..=2) => 0,
-                        (_, 1..=35, _) => BAD_LANE,
+                        (_, 1..=36, 0..=2) => 0,
+                        (_, 1..=36, _) => BAD_LANE,
                         _ => BAD_ROUND,
                     };
                     let call = Report { call, round, lane, ..good.clone() };
@@ -212,15 +285,19 @@ pub fn ranges(tally: &mut Tally) {
     }
 }
 
-/// Outputs, tapes, links and messages of other lengths, and other last numbers.
+/// Outputs, tapes, links and messages of other lengths, and other last numbers. The tape that would do
+/// for 35 pairs a call is too short.
 pub fn lengths(tally: &mut Tally) {
-    for (length, need) in [(0, 2304), (1, 4544), (16, 4544), (17, 6784), (256, 38_144)] {
+    for (length, need) in links::NEEDS {
         let good = good(tally, length, 3);
         for room in (0..=60).chain([96, 256 + 47, 256 + 48, 65_536 + 47]) {
             let call = Report { out: tally.random_for(room).bytes(room), ..good.clone() };
             hold_answer(tally, &call, if room < LANE { SHORT_OUTPUT } else { 0 }, room);
         }
-        for size in [0, 1, 64, need - 1120, need - 32, need - 1, need, need + 1, need + 1120, need + 70_000] {
+        let less = 64 + 1120 * shares::call_count(length);
+        for size in
+            [0, 1, 64, less, need - 1152, need - 32, need - 1, need, need + 1, need + 1152, need + 70_000]
+        {
             let mut call = good.clone();
             call.tape.resize(size, 9);
             hold_answer(tally, &call, if size < need { SHORT_TAPE } else { 0 }, size);
@@ -275,7 +352,7 @@ pub fn refusals(tally: &mut Tally) {
                         |call| call.call = u32::MAX,
                     ],
                 ),
-                (BAD_ROUND, &[|call| call.round = 0, |call| call.round = 36, |call| call.round = u32::MAX]),
+                (BAD_ROUND, &[|call| call.round = 0, |call| call.round = 37, |call| call.round = u32::MAX]),
                 (BAD_LANE, &[|call| call.lane = 3, |call| call.lane = u32::MAX]),
                 (SHORT_OUTPUT, &[|call| call.out.clear(), |call| call.out.truncate(47)]),
             ],
@@ -293,12 +370,12 @@ fn tape_that_shows(report: &Report, shown: &Lane) -> Vec<u8> {
     let [a, b, key] = shares::lane_parts(shown);
     let mut tape = report.tape.clone();
 
-    // The key share as the round adds it has been rotated once in each round. Its mask is c in
-    // lane 0, d in lane 1 and c XOR d in lane 2, where d stays.
+    // The key share as the round adds it has been rotated once in each round, and in round 36 it is
+    // that of round 35. Its mask is c in lane 0, d in lane 1 and c XOR d in lane 2, where d stays.
     let at = shares::key_masks_at(call, report.message.len());
     let key_shares = if at == 0 { link.ke } else { link.km };
     let mut bits = cipher::bits_of(&key);
-    bits.rotate_right(round);
+    bits.rotate_right(round.min(ROUNDS));
     let mask = xor_blocks(&cipher::block_of(&bits), &key_shares[lane]);
     let d: Block = tape[at + 16..at + 32].try_into().unwrap();
     match lane {
@@ -310,10 +387,7 @@ fn tape_that_shows(report: &Report, shown: &Lane) -> Vec<u8> {
     // With that key mask the state shares come to the round as follows, so these are the masks
     // that make the lane's first two blocks of them.
     let sealing = links::next_sealing(&link, &report.message, &tape);
-    let at = shares::masks_at(call, round);
-    let (u, v): (Block, Block) =
-        (tape[at..at + 16].try_into().unwrap(), tape[at + 16..at + 32].try_into().unwrap());
-    let old = [u, v, xor_blocks(&u, &v)];
+    let old = masks(&tape, call, round);
     let mask_for = |i: usize, wanted: &Block| {
         let share = sealing.calls[call - 1].rounds[round - 1].state_share(i % 3);
         xor_blocks(&xor_blocks(&share, &old[i % 3]), wanted)
@@ -325,6 +399,7 @@ fn tape_that_shows(report: &Report, shown: &Lane) -> Vec<u8> {
         1 => (second, both),
         _ => (first, second),
     };
+    let at = shares::masks_at(call, round);
     put(&mut tape, at, &u);
     put(&mut tape, at + 16, &v);
     tape
@@ -349,7 +424,7 @@ pub fn one_tape(tally: &mut Tally) {
     for length in [0, 1, 16, 20, 32] {
         let calls = shares::call_count(length) as u32;
         for call in 1..=calls {
-            for round in [1, 2, 3, 17, 34, 35] {
+            for round in [1, 2, 3, 17, 34, 35, 36] {
                 for lane in 0..3 {
                     let number = (100 * call + 3 * round + lane) as usize;
                     let first = Report { call, round, lane, ..good(tally, length, number) };

@@ -5,9 +5,9 @@
 //! big-endian. A function returns 0 or the refusal's number, and changes the slices only where it
 //! returns 0.
 
-use crate::cipher::{self, Block, ROUNDS};
+use crate::cipher::{self, Block};
 use crate::modes;
-use crate::shares::{self, Sealing, Shares};
+use crate::shares::{self, Sealing, Shares, PAIRS};
 
 pub const SENDER: usize = 105;
 pub const RECEIVER: usize = 49;
@@ -16,6 +16,8 @@ pub const RECEIVER_KEYS: usize = 32;
 pub const LONGEST: usize = 256;
 /// Lengths of message at the edges of blocks.
 pub const EDGES: [usize; 17] = [0, 1, 2, 15, 16, 17, 31, 32, 33, 48, 127, 128, 129, 240, 241, 255, 256];
+/// Lengths of message, each with the bytes of tape that it needs.
+pub const NEEDS: [(usize, usize); 5] = [(0, 2368), (1, 4672), (16, 4672), (17, 6976), (256, 39_232)];
 /// What a record adds to its message: link number, sequence number, tag.
 pub const ADDED: usize = 24;
 /// Three tag shares and the tape count.
@@ -310,7 +312,7 @@ pub fn report(
     if !(1..=calls).contains(&call) {
         return BAD_CALL;
     }
-    if !(1..=ROUNDS as u32).contains(&round) {
+    if !(1..=PAIRS as u32).contains(&round) {
         return BAD_ROUND;
     }
     if lane > 2 {

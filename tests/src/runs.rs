@@ -213,7 +213,7 @@ fn report(tally: &mut Tally, random: &mut Random, rack: &Rack) {
         message: random.bytes(length),
         tape: random.bytes(tape),
         call: random.below(shares::call_count(length) + 2) as u32,
-        round: random.below(38) as u32,
+        round: random.below(39) as u32,
         lane: random.below(4) as u32,
         out: random.bytes(out),
     };

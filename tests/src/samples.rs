@@ -118,7 +118,7 @@ fn print_sealed(link: &mut [u8], message: &[u8], tape: &[u8]) {
 }
 
 fn print_lanes(link: &[u8], message: &[u8], call: u32) {
-    for round in [1, 18, 35] {
+    for round in [1, 18, 35, 36] {
         for lane in 0..3 {
             let mut out = [0; links::LANE];
             let tape = tape(shares::tape_need(message.len()));
@@ -153,7 +153,7 @@ pub fn lanes() {
     report("output one short", &link, &[], &tape(need), 47);
 
     for call in [2, 3] {
-        for round in [35, 36] {
+        for round in [36, 37] {
             for lane in [2, 3] {
                 let number = links::report(&link, &[], &tape(need), call, round, lane, &mut [0; 48]);
                 println!("report {call} {round} {lane} {number}");
@@ -176,22 +176,22 @@ fn turn(link: &mut [u8], length: usize, tape_length: usize, room: usize) {
 
 pub fn rack() {
     let mut link = vec![0; links::SENDER];
-    turn(&mut link, 257, 38_144, 280);
+    turn(&mut link, 257, 39_232, 280);
     let keys = rising(links::SENDER_KEYS, 11, 37);
     assert_eq!(links::key_sender(&mut link, NUMBER, &keys), 0);
     for (message, tape, room) in [
-        (0, 2304, 24),
-        (0, 2303, 24),
-        (1, 4544, 24),
-        (16, 4544, 40),
-        (257, 38_144, 280),
-        (17, 6783, 41),
-        (17, 6784, 40),
-        (17, 6784, 41),
+        (0, 2368, 24),
+        (0, 2367, 24),
+        (1, 4672, 24),
+        (16, 4672, 40),
+        (257, 39_232, 280),
+        (17, 6975, 41),
+        (17, 6976, 40),
+        (17, 6976, 41),
         (257, 0, 0),
-        (20, 38_144, 280),
-        (256, 38_144, 279),
-        (256, 38_144, 280),
+        (20, 39_232, 280),
+        (256, 39_232, 279),
+        (256, 39_232, 280),
     ] {
         turn(&mut link, message, tape, room);
     }

@@ -106,17 +106,19 @@ pub fn messages(tally: &mut Tally) {
     }
 }
 
-/// Tapes of every length around the need, none, and long ones, of which the rest is not read.
+/// Tapes of every length around the need, none, and long ones, of which the rest is not read. One that
+/// would do for 35 pairs a call is too short.
 pub fn tapes(tally: &mut Tally) {
-    for (length, need) in [(0, 2304), (1, 4544), (16, 4544), (17, 6784), (256, 38_144)] {
+    for (length, need) in links::NEEDS {
         let good = good(tally, length);
         let exact = hold_answer(tally, &good, 0, length).left;
-        for size in [0, 1, 63, 64, 65, 1184, need - 1120, need - 32, need - 16, need - 2, need - 1] {
+        let less = 64 + 1120 * shares::call_count(length);
+        for size in [0, 1, 63, 64, 65, 1216, less, need - 1152, need - 32, need - 16, need - 2, need - 1] {
             let mut call = good.clone();
             call.tape.truncate(size);
             hold_answer(tally, &call, SHORT_TAPE, size);
         }
-        for more in [1, 2, 15, 16, 32, 1120, 2240, 70_000] {
+        for more in [1, 2, 15, 16, 32, 1152, 2304, 70_000] {
             let mut call = good.clone();
             call.tape.extend(tally.random_for(more).bytes(more));
             let left = hold_answer(tally, &call, 0, more).left;
@@ -133,6 +135,28 @@ pub fn tapes(tally: &mut Tally) {
         tally.same(format_args!("record under another tape"), &other_left.record, &left.record);
         let differ = other_left.shares[..48] != left.shares[..48];
         tally.same_flag(format_args!("other tag shares under another tape"), differ, true);
+    }
+}
+
+/// The last pair of the tape goes into the tag shares as it is: a bit of u changes that bit of shares 0
+/// and 2, a bit of v that of shares 1 and 2, and nothing else changes.
+pub fn last_pair(tally: &mut Tally) {
+    for length in EDGES {
+        let call = good(tally, length);
+        let left = hold_answer(tally, &call, 0, length).left;
+        for bit in (0..256).step_by(15) {
+            let mut other = call.clone();
+            let at = call.tape.len() - 32 + bit / 8;
+            other.tape[at] ^= 1 << (bit % 8);
+            let mut shares = left.shares.clone();
+            for i in [bit / 8, 32 + bit / 8 % 16] {
+                shares[i] ^= 1 << (bit % 8);
+            }
+            let other_left = hold_answer(tally, &other, 0, length + bit).left;
+            let what = format!("{length} bytes, bit {bit} of the last pair");
+            tally.same(format_args!("shares, {what}"), &other_left.shares, &shares);
+            tally.same(format_args!("record, {what}"), &other_left.record, &left.record);
+        }
     }
 }
 
@@ -227,7 +251,7 @@ pub fn refusals(tally: &mut Tally) {
                     SHORT_TAPE,
                     &[
                         |call| call.tape.clear(),
-                        |call| call.tape.truncate(2303),
+                        |call| call.tape.truncate(2367),
                         |call| call.tape.truncate(call.tape.len() - 1),
                     ],
                 ),

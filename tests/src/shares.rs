@@ -11,9 +11,13 @@ pub type Shares = [Block; 3];
 /// What a probe at one lane sees: state shares i+1 and i+2, then key share i.
 pub type Lane = [u8; 48];
 
+/// How many pairs of masks a call takes: one in each round, and the last on its output. A report counts
+/// the output as a round too.
+pub const PAIRS: usize = ROUNDS + 1;
+
 /// Bytes of tape: the masks of both keys, and those of one call.
 const KEY_MASKS: usize = 64;
-const CALL_MASKS: usize = 32 * ROUNDS;
+const CALL_MASKS: usize = 32 * PAIRS;
 
 /// The share whose number is `i`, counted modulo 3.
 fn of<T: Copy>(shares: &[T; 3], i: usize) -> T {
@@ -70,7 +74,8 @@ pub fn share_of_lane(i: usize, round: usize, lane: &Lane) -> Block {
     cipher::block_of(&round_share(i, round - 1, &a, &b, &key))
 }
 
-/// One round of a call: the state shares just after the masks, and the key shares that it adds.
+/// One round of a call: the state shares just after the masks, and the key shares that it adds. The last
+/// one, round 36, is the output: its shares after the masks, and the key shares of round 35.
 pub struct Round {
     state: [Bits; 3],
     key: [Bits; 3],
@@ -87,7 +92,7 @@ impl Round {
     }
 }
 
-/// A shared call: its rounds, and the three shares that come out.
+/// A shared call: its rounds with the output as the last, and the three shares that come out.
 pub struct Call {
     pub rounds: Vec<Round>,
     pub output: Shares,
@@ -97,18 +102,23 @@ fn call(key: &Shares, input: &Shares, masks: &[u8]) -> Call {
     let mut key = key.map(|share| cipher::bits_of(&share));
     let mut state = input.map(|share| cipher::bits_of(&share));
     state = std::array::from_fn(|i| cipher::add(&state[i], &key[i]));
+    let mask = |at: usize| cipher::bits_of(masks[at..at + 16].try_into().unwrap());
+    let with_pair = |state: &[Bits; 3], at: usize| -> [Bits; 3] {
+        let (u, v) = (mask(32 * at), mask(32 * at + 16));
+        let pair = [u, v, cipher::add(&u, &v)];
+        std::array::from_fn(|i| cipher::add(&state[i], &pair[i]))
+    };
     let mut rounds = Vec::new();
     for round in 0..ROUNDS {
-        let mask = |at: usize| cipher::bits_of(masks[at..at + 16].try_into().unwrap());
-        let (u, v) = (mask(32 * round), mask(32 * round + 16));
-        let pair = [u, v, cipher::add(&u, &v)];
-        state = std::array::from_fn(|i| cipher::add(&state[i], &pair[i]));
+        state = with_pair(&state, round);
         key = key.map(|share| cipher::rotate(&share));
         rounds.push(Round { state, key });
         let before = state;
         state =
             std::array::from_fn(|i| round_share(i, round, &of(&before, i + 1), &of(&before, i + 2), &key[i]));
     }
+    state = with_pair(&state, ROUNDS);
+    rounds.push(Round { state, key });
     Call { rounds, output: state.map(|share| cipher::block_of(&share)) }
 }
 
@@ -122,7 +132,8 @@ pub fn call_count(length: usize) -> usize {
     2 * length.div_ceil(16) + 2
 }
 
-/// Where in the tape the masks u, v of a call and a round stand, both counted from 1.
+/// Where in the tape the masks u, v of a call and a round stand, both counted from 1; those of the
+/// output are round 36.
 pub fn masks_at(call: usize, round: usize) -> usize {
     KEY_MASKS + CALL_MASKS * (call - 1) + 32 * (round - 1)
 }
