@@ -31,10 +31,9 @@ index-next (suc (suc zero)) l = refl
 index-next (suc (suc (suc i))) l = absurd (omega arith)
 
 index-after : (i : ℕ) → i < 3 → indexOf ((i + 2) % 3) ≡ next (next (indexOf i))
-index-after zero l = refl
-index-after (suc zero) l = refl
-index-after (suc (suc zero)) l = refl
-index-after (suc (suc (suc i))) l = absurd (omega arith)
+index-after i l =
+    let e : (i + 2) % 3 ≡ ((i + 1) % 3 + 1) % 3 = omega arith in
+    ap indexOf e ∙ index-next ((i + 1) % 3) (omega arith) ∙ ap next (index-next i l)
 
 part-flat : (s : Shares) → Blocks s → (i : ℕ) → i < 3 → part (16 * i) 16 (flat s) ≡ s (indexOf i)
 part-flat s p zero l = first-part (p _) (p _) (p _)
@@ -141,30 +140,9 @@ module _ (S : AcceptedSealing) where
         parts p = λ z.
             part p 16 (shown-lane 0 (omega arith) z) ⊕ (part p 16 (shown-lane 1 (omega arith) z) ⊕ part p 16 (shown-lane 2 (omega arith) z))
 
-  -- ---- from round to round
+  -- ---- the shares of call k's key and of its input
 
-  pub followed : (k r i : ℕ) → 1 ≤ k → k ≤ callCount n → 1 ≤ r → r < pairCount → i < 3
-      → part 0 16 (shown x m t k (r + 1) i)
-      ≡ roundOnLane (r - 1) (isFirst (next (indexOf i))) (shown x m t k r ((i + 1) % 3))
-      ⊕ masksAt (at t) (masksOf k (r + 1)) (next (indexOf i))
-  unfolding laneOf
-  followed k r i k₁ kₙ r₁ rₙ l =
-      let up : r + 1 - 1 ≡ suc (r - 1) = omega arith in
-      let all : Reads (at t) (callAt k + pairSize * suc (r - 1) + pairSize) = λ p h. reads p (omega arith) in
-      let keys = key-blocks placed encryption-blocks blocks (at t) k _ (omega arith) all in
-      let inputs = input-blocks placed encryption-blocks blocks (at t) k _ k₁ (omega arith) all in
-      ap (part 0 16) (shown-lane k (r + 1) k₁ kₙ (omega arith) (omega arith) i l
-      ∙ ap (λ (q : ℕ). lane encryption (keyShares encryption R (at t) k) (inputOf encryption R (at t) k) (at t) (callAt k) q
-      (indexOf i)) up)
-      ∙ lane-follows (at t) (callAt k) (r - 1) (omega arith) keys inputs all (indexOf i)
-      ∙ ap₂ (λ (s : List ℕ) (q : ℕ).
-      roundOnLane (r - 1) (isFirst (next (indexOf i))) s ⊕ masksAt (at t) (callAt k + pairSize * q) (next (indexOf i)))
-      (ap (laneOf encryption R (at t) k r) (sym (index-next i l)) ∙ sym (shown-lane k r k₁ kₙ r₁ (omega arith) ((i + 1) % 3) (omega arith)))
-      (sym up)
-
-  -- ---- the last pair shows the output
-
-  module _ (k i : ℕ) (k₁ : 1 ≤ k) (kₙ : k ≤ callCount n) (l : i < 3) where
+  module _ (k : ℕ) (k₁ : 1 ≤ k) (kₙ : k ≤ callCount n) where
     all : Reads (at t) (callAt k + pairSize * rounds + pairSize)
     all p h = reads p (omega arith)
 
@@ -174,6 +152,27 @@ module _ (S : AcceptedSealing) where
     inputs : Blocks (inputOf encryption R (at t) k)
     inputs = input-blocks placed encryption-blocks blocks (at t) k _ k₁ (omega arith) all
 
+  -- ---- from round to round
+
+  pub followed : (k r i : ℕ) → 1 ≤ k → k ≤ callCount n → 1 ≤ r → r < pairCount → i < 3
+      → part 0 16 (shown x m t k (r + 1) i)
+      ≡ roundOnLane (r - 1) (isFirst (next (indexOf i))) (shown x m t k r ((i + 1) % 3))
+      ⊕ masksAt (at t) (masksOf k (r + 1)) (next (indexOf i))
+  unfolding laneOf
+  followed k r i k₁ kₙ r₁ rₙ l =
+      let up : r + 1 - 1 ≡ suc (r - 1) = omega arith in
+      ap (part 0 16) (shown-lane k (r + 1) k₁ kₙ (omega arith) (omega arith) i l
+      ∙ ap (λ (q : ℕ). lane encryption (keyShares encryption R (at t) k) (inputOf encryption R (at t) k) (at t) (callAt k) q
+      (indexOf i)) up)
+      ∙ lane-follows (at t) (callAt k) (r - 1) (omega arith) (keys k k₁ kₙ) (inputs k k₁ kₙ) (λ p h. reads p (omega arith)) (indexOf i)
+      ∙ ap₂ (λ (s : List ℕ) (q : ℕ).
+      roundOnLane (r - 1) (isFirst (next (indexOf i))) s ⊕ masksAt (at t) (callAt k + pairSize * q) (next (indexOf i)))
+      (ap (laneOf encryption R (at t) k r) (sym (index-next i l)) ∙ sym (shown-lane k r k₁ kₙ r₁ (omega arith) ((i + 1) % 3) (omega arith)))
+      (sym up)
+
+  -- ---- the last pair shows the output
+
+  module _ (k i : ℕ) (k₁ : 1 ≤ k) (kₙ : k ≤ callCount n) (l : i < 3) where
     last : shown x m t k pairCount i ≡ laneOf encryption R (at t) k pairCount (indexOf i)
     last = shown-lane k pairCount k₁ kₙ (omega arith) (omega arith) i l
 
@@ -181,15 +180,17 @@ module _ (S : AcceptedSealing) where
         (part 0 16 s ≡ out (next (indexOf i))) × (part 16 16 s ≡ out (next (next (indexOf i))))
     unfolding outputOf laneOf
     output-shown = (
-      ap (part 0 16) last ∙ lane-next encryption-blocks (at t) (callAt k) rounds keys inputs all (indexOf i),
-      ap (part 16 16) last ∙ lane-after encryption-blocks (at t) (callAt k) rounds keys inputs all (indexOf i),
+      ap (part 0 16) last
+          ∙ lane-next encryption-blocks (at t) (callAt k) rounds (keys k k₁ kₙ) (inputs k k₁ kₙ) (all k k₁ kₙ) (indexOf i),
+      ap (part 16 16) last
+          ∙ lane-after encryption-blocks (at t) (callAt k) rounds (keys k k₁ kₙ) (inputs k k₁ kₙ) (all k k₁ kₙ) (indexOf i),
     )
 
     output-lane : outputOf encryption R (at t) k (indexOf i)
         ≡ roundOnLane (rounds - 1) (isFirst (indexOf i)) (shown x m t k rounds i) ⊕ masksAt (at t) (masksOf k pairCount) (indexOf i)
     unfolding outputOf laneOf
     output-lane =
-        masked-lane (at t) (callAt k) (rounds - 1) (omega arith) keys inputs (λ p h. reads p (omega arith)) (indexOf i)
+        masked-lane (at t) (callAt k) (rounds - 1) (omega arith) (keys k k₁ kₙ) (inputs k k₁ kₙ) (λ p h. reads p (omega arith)) (indexOf i)
         ∙ ap (λ (s : List ℕ). roundOnLane (rounds - 1) (isFirst (indexOf i)) s ⊕ masksAt (at t) (masksOf k pairCount) (indexOf i))
         (sym (shown-lane k rounds k₁ kₙ (omega arith) (omega arith) i l))
 

@@ -88,7 +88,8 @@ outputs-shown = output-shown
 
 -- what a round makes of a share needs its lane alone: with the next pair's mask it is the share that the next round's lanes show, or the
 -- output's
-pub lanes-follow : (S : AcceptedSealing) (k r i : ℕ) → 1 ≤ k → k ≤ callCount (blockCount (length (S .message))) → 1 ≤ r → r < pairCount → i < 3
+pub lanes-follow : (S : AcceptedSealing) (k r i : ℕ) → 1 ≤ k → k ≤ callCount (blockCount (length (S .message))) → 1 ≤ r → r < pairCount
+    → i < 3
     → part 0 16 (shown (S .link) (S .message) (S .tape) k (r + 1) i)
     ≡ roundOnLane (r - 1) (isFirst (next (indexOf i))) (shown (S .link) (S .message) (S .tape) k r ((i + 1) % 3))
     ⊕ masksAt (at (S .tape)) (masksOf k (r + 1)) (next (indexOf i))

@@ -1,6 +1,7 @@
 -- Probe-proof at the calls: the three statements on links in their bytes, with the tag's shares and the tape count out of the second slice.
 -- Assumes nothing.
-use Rattle.prelude.proofs.{_≡_, sym, ap, _∙_, List, _++_, append-assoc, ℕ, _+_, _-_, _*_, _%_, _≤_, _<_, arith, length, take, take-at, drop-at}
+use Rattle.prelude.proofs.{_≡_, sym, ap, _∙_, List, _++_, append-assoc, ℕ, _+_, _-_, _*_, _%_, _≤_, _<_, arith, length, take, take-at}
+use Rattle.prelude.proofs.{drop-at}
 use Rattle.blocks.specs.Bytes.{_⊕_, bigEndian, part, put, blockCount}
 use Rattle.blocks.proofs.{Numbers.bigEndian-length, Parts.part-take, Parts.put-start}
 use Rattle.answers.proofs.First.{if-done}

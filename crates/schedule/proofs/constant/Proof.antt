@@ -3,7 +3,7 @@ use Rattle.prelude.proofs.{refl, List, [], _∷_, ℕ, _*_, _/_, _%_, bitXor, b
 use Rattle.bits.specs.Bit.{bit}
 use Rattle.bits.proofs.Test.{agree²}
 use Rattle.blocks.specs.Bits.{blockOf}
-use Rattle.baksheesh.specs.Baksheesh.{constants, constant}
+use Rattle.baksheesh.specs.Baksheesh.{rounds, constants, constant}
 use Rattle.schedule.proofs.constant as fn
 
 -- the six bits of x at their places
@@ -16,7 +16,7 @@ returns : fn.Tie.Need-returns
 unfolding constant blockOf bit
 returns c =
     ext-getD 0 _ _ refl
-    (λ k h. agree² 35 16 (λ n k. getD (spread (getD constants n 0)) k 0) (λ n k. getD (constant n) k 0) tt (c .args .n) k (c .pre) h)
+    (λ k h. agree² rounds 16 (λ n k. getD (spread (getD constants n 0)) k 0) (λ n k. getD (constant n) k 0) tt (c .args .n) k (c .pre) h)
 
 pub constant-spec : {M : Type 1} → fn.Statement.statement M
 constant-spec = fn.Tie.close (fn.Tie.spec (λ c. search needs) returns)
