@@ -186,16 +186,14 @@ pub fn draw(tape: &[u8], used: usize) -> Drawn
 pub fn mask(s: Triple, pair: Drawn) -> Triple
     ensures { λ r. ⌜ sharesOf r ≡ addShares (sharesOf s) (spread (unpacked (pair .u)) (unpacked (pair .v))) ⌝ }
 {
-    let a = s.a;
-    let b = s.b;
-    let c = s.c;
     let u = pair.u;
     let v = pair.v;
-    Triple {
-        a: add(a, u),
-        b: add(b, v),
-        c: add(c, add(u, v)),
-    }
+    let masks = Triple {
+        a: u,
+        b: v,
+        c: add(u, v),
+    };
+    add_shares(s, masks)
 }
 
 // ---- calls
