@@ -10,7 +10,7 @@ use Rattle.modes.specs.Cmac.{doubled, subkey₁, subkey₂, lastBlock}
 use Rattle.modes.specs.Cmac as Cmac
 use Rattle.modes.proofs.Pieces.{piece-length, piece-le, piece-whole, piece-bytes, piece-front, piece-behind}
 use Rattle.modes.proofs.{Ctr.piece-ctr, Ctr.ctr-same, Doubled.doubled-block, Doubled.doubled-⊕}
-use Rattle.links.specs.{Record.standard, Record.counterBlock, Record.recordOf, declared.Sender.Sender}
+use Rattle.links.specs.{Record.counterBlock, Record.recordOf, Links.senderForm, declared.Sender.Sender}
 use Rattle.links.proofs.Record.{counter-block}
 use Rattle.plain.specs.Plain.{crypted, authenticated, macOf, plainRecord}
 use Rattle.masking.specs.Shares.{Shares, Blocks, join, add, each, only, sharesIn, Reader}
@@ -230,6 +230,8 @@ module _ (x : Sender) (m : List ℕ) (F : Formed x) (b : Bytes m) where
         outputs-join (callCount n) (omega arith) (omega arith)
         ∙ ap (λ (c : Call). encrypt (ofKey KE KM c) (input c)) (call-last n) ∙ sym (plainly .code)
 
-    pub record-join : sealedRecord x m M ≡ plainRecord standard (encrypt KE) (encrypt KM) (x .number) (x .last + 1) m
+    pub record-join : sealedRecord x m M ≡ plainRecord (senderForm x) (encrypt KE) (encrypt KM) (x .number) (x .last + 1) m
     unfolding sealedRecord plainRecord
-    record-join = ap₂ (λ (c t : List ℕ). recordOf standard (x .number) (x .last + 1) c (take (standard .tag) t)) ciphertext-join code-join
+    record-join =
+        let f = senderForm x in
+        ap₂ (λ (c t : List ℕ). recordOf f (x .number) (x .last + 1) c (take (f .tag) t)) ciphertext-join code-join

@@ -7,7 +7,7 @@ use Rattle.blocks.proofs.Parts.{put-whole}
 use Rattle.baksheesh.specs.Baksheesh.{rounds, after, rotated}
 use Rattle.answers.specs.Answer.{done}
 use Rattle.answers.proofs.First.{if-done}
-use Rattle.links.specs.{Record.standard, Record.recordSize, declared.Sender.Sender}
+use Rattle.links.specs.{Record.recordSize, Links.senderForm, declared.Sender.Sender}
 use Rattle.masking.specs.Shares.{flat, next, isFirst, Shares, Blocks, join, at, pairSize, masksAt}
 use Rattle.masking.specs.{Stages.lane, Call.encryption, Call.pairCount, OneTape.roundOnLane, OneTape.ExactlyOne}
 use Rattle.masking.proofs.Lane.{first-part, second-part, third-part, parts-length, lane-next, lane-after}
@@ -70,7 +70,7 @@ module _ (S : AcceptedSealing) where
   pub can-seal : Sealable x m t
   can-seal = sealable x m t o (S .accepted)
 
-  pub returned : sealAnswer x m t o ≡ done (recordSize standard (length m) ∷ tapeNeed (length m) ∷ [])
+  pub returned : sealAnswer x m t o ≡ done (recordSize (senderForm x) (length m) ∷ tapeNeed (length m) ∷ [])
   returned = values x m t o (S .accepted)
 
   pub reads : Reads (at t) (tapeNeed (length m))

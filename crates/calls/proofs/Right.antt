@@ -9,8 +9,9 @@ use Rattle.answers.proofs.First.{if-done}
 use Rattle.baksheesh.specs.Baksheesh.{encrypt}
 use Rattle.baksheesh.proofs.Inverse.{encrypt-block}
 use Rattle.modes.proofs.Ctr.{ctr-same}
-use Rattle.links.specs.Record.{standard, recordSize, recordOf, sequenceIn}
-use Rattle.links.specs.{Links.senderOf, declared.Sender.Sender}
+use Rattle.links.specs.Record.{recordSize, recordOf, sequenceIn}
+use Rattle.links.specs.{Links.senderOf, Links.senderForm, declared.Sender.Sender, declared.Width.Width}
+use Rattle.links.proofs.Widths.{proper}
 use Rattle.plain.specs.{Plain.plainRecord, Entry.plainAnswer, Entry.plainOutput}
 use Rattle.plain.proofs.Sealed.{plain-sequence}
 use Rattle.masking.specs.Shares.{Shares, join, sharesIn, flat, at}
@@ -23,28 +24,29 @@ use Rattle.runs.proofs.Run.{output-agree, lane-agrees}
 use Rattle.calls.proofs.Shape.{ke-block, km-block, sealing-placed}
 use Rattle.calls.proofs.Accepted.{values, sealable, reported, plain-done}
 use Rattle.calls.proofs.Lanes.{can-seal, returned, reads, accepted-with}
-use Rattle.calls.proofs.{Joins.record-join, Total.advanced-formed}
+use Rattle.calls.proofs.Joins.{record-join}
 
 -- ---- shared and plain sealing
 
 -- the record is the one of plain sealing under the joined keys, with the link's number and its next sequence number
 pub same-record : (S : AcceptedSealing) → let x = S .link in
     sealedRecord x (S .message) (at (S .tape))
-    ≡ plainRecord standard (encrypt (joinedKE x)) (encrypt (joinedKM x)) (x .number) (x .last + 1) (S .message)
+    ≡ plainRecord (senderForm x) (encrypt (joinedKE x)) (encrypt (joinedKM x)) (x .number) (x .last + 1) (S .message)
 same-record S = record-join (S .link) (S .message) (S .formed) (S .message-bytes) (at (S .tape)) (reads S)
 
 -- plain sealing with these is then accepted too, and leaves the same output
 pub same-answer : (S : AcceptedSealing) → let x = S .link in
-    plainAnswer standard (joinedKE x ++ joinedKM x) (x .last + 1) (S .message) (length (S .out))
-    ≡ done (recordSize standard (length (S .message)) ∷ [])
+    plainAnswer (senderForm x) (joinedKE x ++ joinedKM x) (x .last + 1) (S .message) (length (S .out))
+    ≡ done (recordSize (senderForm x) (length (S .message)) ∷ [])
 same-answer S =
     let x = S .link in
     plain-done x (S .message) (S .tape) (length (S .out)) (S .accepted) (joinedKE x ++ joinedKM x) (x .last + 1)
     (simp length-append (omega (arith, ke-block (S .formed) .size, km-block (S .formed) .size))) (omega arith)
+    (let left = can-seal S .left in omega arith)
 
 pub same-output : (S : AcceptedSealing) → let x = S .link in
     sealOutput x (S .message) (S .tape) (S .out)
-    ≡ plainOutput standard encrypt (joinedKE x ++ joinedKM x) (x .number) (x .last + 1) (S .message) (S .out)
+    ≡ plainOutput (senderForm x) encrypt (joinedKE x ++ joinedKM x) (x .number) (x .last + 1) (S .message) (S .out)
 same-output S =
     let x = S .link in
     let m : List ℕ = S .message in
@@ -55,30 +57,31 @@ same-output S =
     ∙ take-all 16 (joinedKM x) (omega (arith, km-block (S .formed) .size)) in
     sym (if-done (returned S) _ o)
     ∙ ap (λ (r : List ℕ). put 0 r o)
-    (same-record S ∙ ap₂ (λ (e k : List ℕ). plainRecord standard (encrypt e) (encrypt k) (x .number) (x .last + 1) m) (sym ke) (sym km))
+    (same-record S
+    ∙ ap₂ (λ (e k : List ℕ). plainRecord (senderForm x) (encrypt e) (encrypt k) (x .number) (x .last + 1) m) (sym ke) (sym km))
     ∙ if-done (same-answer S) _ _
 
 -- the record carries the number after the link's last, and the link that comes back has that for its last
 pub next-number : (S : AcceptedSealing) → let x = S .link in
-    (sequenceIn standard (sealedRecord x (S .message) (at (S .tape))) ≡ x .last + 1)
+    (sequenceIn (senderForm x) (sealedRecord x (S .message) (at (S .tape))) ≡ x .last + 1)
     × (sealLink x (S .message) (S .tape) (length (S .out)) ≡ advanced x)
 next-number S =
     let x = S .link in
     let m : List ℕ = S .message in
     let o : ℕ = length (S .out) in (
-      ap (λ (r : List ℕ). sequenceIn standard r) (same-record S)
-          ∙ plain-sequence standard (record { sequence = omega arith; tag = omega arith }) _ _
+      ap (λ (r : List ℕ). sequenceIn (senderForm x) r) (same-record S)
+          ∙ plain-sequence (senderForm x) (proper (x .width)) _ _
           (λ k. encrypt-block _ k (ke-block (S .formed))) (λ k. encrypt-block _ k (km-block (S .formed)))
-          (x .number) (x .last + 1) m (S .message-bytes) (advanced-formed x m (S .tape) o (S .formed) (S .accepted) .last),
+          (x .number) (x .last + 1) m (S .message-bytes) (let left = sealable x m (S .tape) o (S .accepted) .left in omega arith),
       sym (if-done (values x m (S .tape) o (S .accepted)) (advanced x) x),
     )
 
 -- a link keyed with 96 bytes has three shares of KE, then of KM, one behind the other
-pub keyed-keys : (n : ℕ) (keys : List ℕ) → let x = senderOf n keys in
+pub keyed-keys : (n : ℕ) (w : Width) (keys : List ℕ) → let x = senderOf n w keys in
     (joinedKE x ≡ part 0 16 keys ⊕ (part 16 16 keys ⊕ part 32 16 keys))
     × (joinedKM x ≡ part 48 16 keys ⊕ (part 64 16 keys ⊕ part 80 16 keys))
 unfolding join
-keyed-keys n keys = (shares 0 16 32 (omega arith) (omega arith), shares 48 64 80 (omega arith) (omega arith))
+keyed-keys n w keys = (shares 0 16 32 (omega arith) (omega arith), shares 48 64 80 (omega arith) (omega arith))
   where
     shares : (p q r : ℕ) → q ≡ p + 16 → r ≡ p + 32 → join (sharesIn (part p 48 keys)) ≡ part p 16 keys ⊕ (part q 16 keys ⊕ part r 16 keys)
     shares p q r eq er =
@@ -126,7 +129,7 @@ rest-unread S u e = record {
 
     record-agrees : sealedRecord x m (at u) ≡ sealedRecord x m (at t)
     record-agrees =
-        ap₂ (λ (c : List ℕ) (s : Shares). recordOf standard (x .number) (x .last + 1) c (take (standard .tag) (join s)))
+        ap₂ (λ (c : List ℕ) (s : Shares). recordOf (senderForm x) (x .number) (x .last + 1) c (take (senderForm x .tag) (join s)))
         (ctr-same (λ b. b) (λ b. b) _ _ m
         (λ j l. ap join (output-agree (sealing-placed x m) (at u) (at t) (1 + j) (omega arith) (λ p h. agree p (omega arith)))))
         tag-agrees
@@ -137,5 +140,5 @@ rest-unread S u e = record {
     A : Accepted x m u o
     A = accepted-with S u long
 
-    v : sealAnswer x m u o ≡ done (recordSize standard (length m) ∷ tapeNeed (length m) ∷ [])
+    v : sealAnswer x m u o ≡ done (recordSize (senderForm x) (length m) ∷ tapeNeed (length m) ∷ [])
     v = values x m u o A

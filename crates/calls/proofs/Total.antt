@@ -1,28 +1,29 @@
 -- When sealing and the report are accepted, what they return then, and that each refusal has exactly its cause and changes nothing.
 -- Assumes nothing.
-use Rattle.prelude.proofs.{_≡_, refl, sym, _↔_, true, List, [], _∷_, ℕ, _+_, _^_, _≤_, _<_, decLt, arith, length, replicate}
+use Rattle.prelude.proofs.{_≡_, refl, sym, _↔_, true, List, [], _∷_, ℕ, _+_, _^_, _≤_, _<_, arith, length, replicate}
 use Rattle.prelude.proofs.{length-replicate}
 use Rattle.blocks.specs.Bytes.{Bytes, put, blockCount}
 use Rattle.blocks.proofs.Parts.{part-length, part-bytes}
 use Rattle.answers.specs.Answer.{done, refused, FirstOf}
 use Rattle.answers.proofs.First.{if-refused, refused-exactly}
-use Rattle.links.specs.Record.{standard, numberSize, greatest, longest, recordSize}
-use Rattle.links.specs.{Links.senderKeys, Links.senderOf, declared.Sender.Sender}
+use Rattle.links.specs.Record.{numberSize, greatest, usable, longest, recordSize}
+use Rattle.links.specs.{Links.senderKeys, Links.senderOf, Links.senderForm, declared.Sender.Sender, declared.Width.Width}
+use Rattle.links.proofs.Widths.{usable-exactly}
 use Rattle.masking.specs.{Shares.at, Call.encryption, Call.pairCount}
 use Rattle.calls.specs.Entry.{sealCauses, sealAnswer, sealLink, advanced, sealOutput, reportCauses, reportAnswer, reportOutput}
 use Rattle.calls.specs.Entry.{indexOf}
 use Rattle.calls.specs.Demand.{Formed, Accepted, AcceptedSealing}
 use Rattle.calls.specs.{Numbered.callCount, Numbered.tapeNeed, Sealed.sealingCalls, Sealed.sealedRecord}
 use Rattle.runs.specs.{Run.laneOf, Lanes.TellsNumber}
-use Rattle.calls.proofs.Accepted.{accepted, values, sealable, room, report-tells}
+use Rattle.calls.proofs.Accepted.{accepted, values, sealable, next-fits, room, report-tells}
 
 -- ---- accepted
 
 -- sealing is accepted exactly where the link is keyed and has a number left, the message has at most 256 bytes, and tape and output are
 -- long enough
 pub accepted-exactly : (x : Sender) (m t : List ℕ) (o : ℕ) → Accepted x m t o
-    ↔ ((x .keyed ≡ true) × (x .last ≡ greatest standard → ⊥) × (length m ≤ longest) × (tapeNeed (length m) ≤ length t)
-    × (recordSize standard (length m) ≤ o))
+    ↔ ((x .keyed ≡ true) × (x .last < greatest (senderForm x)) × (length m ≤ longest) × (tapeNeed (length m) ≤ length t)
+    × (recordSize (senderForm x) (length m) ≤ o))
 accepted-exactly x m t o = (
   (λ A. let S = sealable x m t o A in (S .keyed, S .left, S .small, S .long, room x m t o A)),
   (λ h. accepted x m t o (record { keyed = h .0; left = h .1; small = h .2; long = h .3 }) (h .4)),
@@ -30,14 +31,15 @@ accepted-exactly x m t o = (
 
 -- an accepted sealing returns the length of the record and the tape bytes read
 pub accepted-values : (x : Sender) (m t : List ℕ) (o : ℕ) → Accepted x m t o
-    → sealAnswer x m t o ≡ done (recordSize standard (length m) ∷ tapeNeed (length m) ∷ [])
+    → sealAnswer x m t o ≡ done (recordSize (senderForm x) (length m) ∷ tapeNeed (length m) ∷ [])
 accepted-values = values
 
 -- ---- links hold what they can
 
 -- keying with 96 bytes makes such a link, and sealing keeps it so
-pub keyed-formed : (n : ℕ) (keys : List ℕ) → n < 256 ^ numberSize → length keys ≡ senderKeys → Bytes keys → Formed (senderOf n keys)
-keyed-formed n keys h e b = record {
+pub keyed-formed : (n : ℕ) (w : Width) (keys : List ℕ) → n < 256 ^ numberSize → length keys ≡ senderKeys → Bytes keys
+    → Formed (senderOf n w keys)
+keyed-formed n w keys h e b = record {
   number = h;
   last = omega arith;
   ke-size = part-length 0 48 keys (omega arith);
@@ -47,26 +49,30 @@ keyed-formed n keys h e b = record {
 }
 
 pub advanced-formed : (x : Sender) (m t : List ℕ) (o : ℕ) → Formed x → Accepted x m t o → Formed (advanced x)
-advanced-formed x m t o F A =
-    let fits = F .last in
-    let small : x .last + 1 < 256 ^ standard .sequence =
-    elim (decLt (x .last) (greatest standard)) [ yes l ↦ omega arith | no l ↦ absurd (sealable x m t o A .left (omega arith)) ] in
-    record {
-      number = F .number;
-      last = small;
-      ke-size = F .ke-size;
-      ke-bytes = F .ke-bytes;
-      km-size = F .km-size;
-      km-bytes = F .km-bytes;
-    }
+advanced-formed x m t o F A = record {
+  number = F .number;
+  last = next-fits x m t (sealable x m t o A);
+  ke-size = F .ke-size;
+  ke-bytes = F .ke-bytes;
+  km-size = F .km-size;
+  km-bytes = F .km-bytes;
+}
+
+-- and it counts as keyed
+pub advanced-usable : (x : Sender) (m t : List ℕ) (o : ℕ) → Accepted x m t o → let y = advanced x in
+    usable (senderForm y) (y .keyed) (y .last) ≡ true
+advanced-usable x m t o A =
+    let S = sealable x m t o A in
+    let left = S .left in
+    usable-exactly (senderForm x) (x .keyed) (x .last + 1) .1 (S .keyed, omega arith)
 
 -- for every such link that is keyed and has a number left, every message of at most 256 bytes and every tape long enough there is an
 -- accepted sealing
 pub sealing-exists : (x : Sender) (m t : List ℕ) → Formed x → Bytes m → Bytes t
-    → x .keyed ≡ true → (x .last ≡ greatest standard → ⊥) → length m ≤ longest → tapeNeed (length m) ≤ length t
+    → x .keyed ≡ true → (x .last < greatest (senderForm x)) → length m ≤ longest → tapeNeed (length m) ≤ length t
     → (S : AcceptedSealing) × (S .link ≡ x) × (S .message ≡ m) × (S .tape ≡ t)
 sealing-exists x m t F b bt keyed left small long =
-    let o : List ℕ = replicate (recordSize standard (length m)) 0 in (
+    let o : List ℕ = replicate (recordSize (senderForm x) (length m)) 0 in (
       record {
         link = x;
         message = m;

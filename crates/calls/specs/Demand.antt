@@ -7,7 +7,7 @@ use lib.ListN.{length, replicate}
 use Rattle.blocks.specs.Bytes.{Bytes, _⊕_, part, blockCount}
 use Rattle.baksheesh.specs.Baksheesh.{rounds, rotated}
 use Rattle.answers.specs.Answer.{Accepts}
-use Rattle.links.specs.Record.{standard, numberSize}
+use Rattle.links.specs.Record.{numberSize, sequenceMost}
 use Rattle.links.specs.declared.Sender.{Sender}
 use Rattle.masking.specs.Shares.{join, sharesIn, pairSize}
 use Rattle.masking.specs.Call.{pairCount}
@@ -20,7 +20,7 @@ use Rattle.calls.specs.Entry.{sealAnswer, sealLink, sealShares, sealOutp
 -- what the fields of a sending link can hold
 pub record Formed (x : Sender) : Type 0 where
   pub number : x .number < 256 ^ numberSize
-  pub last : x .last < 256 ^ standard .sequence
+  pub last : x .last < 256 ^ sequenceMost
   pub ke-size : length (x .ke) ≡ 48
   pub ke-bytes : Bytes (x .ke)
   pub km-size : length (x .km) ≡ 48

@@ -7,7 +7,8 @@ use lib.Dec.{eqb, ltb}
 use lib.ListN.{length, replicate}
 use Rattle.answers.specs.Answer.{Answer, done, Cause, _when_, first, ifDone, output}
 use Rattle.blocks.specs.Bytes.{blockCount}
-use Rattle.links.specs.Record.{standard, greatest, longest, recordSize}
+use Rattle.links.specs.Record.{greatest, usable, longest, recordSize}
+use Rattle.links.specs.Links.{senderForm}
 use Rattle.links.specs.declared.Sender.{Sender}
 use Rattle.masking.specs.Shares.{Index, i₀, i₁, i₂, flat, at}
 use Rattle.masking.specs.Call.{encryption, pairCount}
@@ -21,22 +22,22 @@ use Rattle.calls.specs.Sealed.{sealingCalls, tagShares, sealedRecord}
 -- the causes that sealing and the report share
 abbrev pub inputCauses : Sender → List ℕ → List ℕ → List Cause → List Cause
 inputCauses x m t cs =
-    (20 when not (x .keyed))
-    ∷ (21 when eqb (x .last) (greatest standard))
+    (20 when not (usable (senderForm x) (x .keyed) (x .last)))
+    ∷ (21 when eqb (x .last) (greatest (senderForm x)))
     ∷ (2 when ltb longest (length m))
     ∷ (3 when ltb (length t) (tapeNeed (length m)))
     ∷ cs
 
 abbrev pub sealCauses : Sender → List ℕ → List ℕ → ℕ → List Cause
-sealCauses x m t o = inputCauses x m t ((4 when ltb o (recordSize standard (length m))) ∷ [])
+sealCauses x m t o = inputCauses x m t ((4 when ltb o (recordSize (senderForm x) (length m))) ∷ [])
 
 -- the length of the record, and the tape bytes read
 unfoldable pub sealAnswer : Sender → List ℕ → List ℕ → ℕ → Answer
-sealAnswer x m t o = first (sealCauses x m t o) (done (recordSize standard (length m) ∷ tapeNeed (length m) ∷ []))
+sealAnswer x m t o = first (sealCauses x m t o) (done (recordSize (senderForm x) (length m) ∷ tapeNeed (length m) ∷ []))
 
 -- the link with its next number used
 abbrev pub advanced : Sender → Sender
-advanced x = record { keyed = x .keyed; number = x .number; last = x .last + 1; ke = x .ke; km = x .km }
+advanced x = record { keyed = x .keyed; number = x .number; last = x .last + 1; width = x .width; ke = x .ke; km = x .km }
 
 abbrev pub sealLink : Sender → List ℕ → List ℕ → ℕ → Sender
 sealLink x m t o = ifDone (sealAnswer x m t o) (advanced x) x

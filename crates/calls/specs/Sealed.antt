@@ -7,7 +7,8 @@ use lib.ListN.{length, take, replicate}
 use Rattle.blocks.specs.Bytes.{zeros, blockCount, piece}
 use Rattle.modes.specs.Ctr as Ctr
 use Rattle.modes.specs.Cmac.{doubled, padded}
-use Rattle.links.specs.Record.{standard, counterBlock, recordOf}
+use Rattle.links.specs.Record.{counterBlock, recordOf}
+use Rattle.links.specs.Links.{senderForm}
 use Rattle.links.specs.declared.Sender.{Sender}
 use Rattle.masking.specs.Shares.{Shares, join, add, each, only, sharesIn, Reader}
 use Rattle.masking.specs.Call.{encryption}
@@ -85,4 +86,4 @@ module _ (x : Sender) (m : List ℕ) where
     ciphertext = Ctr.ctr (λ b. b) (λ j. join (ctrOut j)) m
 
     unfoldable pub sealedRecord : List ℕ
-    sealedRecord = recordOf standard (x .number) (x .last + 1) ciphertext (take (standard .tag) (join tagShares))
+    sealedRecord = recordOf (senderForm x) (x .number) (x .last + 1) ciphertext (take (senderForm x .tag) (join tagShares))

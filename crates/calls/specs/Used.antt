@@ -8,7 +8,8 @@ use Rattle.baksheesh.specs.Baksheesh.{encrypt}
 use Rattle.modes.specs.Ctr as Ctr
 use Rattle.modes.specs.Cmac.{doubled, subkey₁}
 use Rattle.modes.specs.Cmac as Cmac
-use Rattle.links.specs.Record.{standard, recordOf}
+use Rattle.links.specs.Record.{recordOf}
+use Rattle.links.specs.Links.{senderForm}
 use Rattle.links.specs.declared.Sender.{Sender}
 use Rattle.plain.specs.Plain.{crypted, authenticated, macOf}
 use Rattle.masking.specs.Shares.{Shares, join, Reader}
@@ -31,8 +32,8 @@ pub record CallsUsed (x : Sender) (m : List ℕ) (M : Reader) : Type 0 where
   pub inputs : (k : ℕ) → (f : ℕ → Shares) × Before x m M k f
       × (inputOf encryption (sealingCalls x m) M k ≡ inputFrom x m (callOf (blockCount (length m)) k) f)
   pub recorded : let n = blockCount (length m) in let out = outputOf encryption (sealingCalls x m) M in
-      sealedRecord x m M ≡ recordOf standard (x .number) (x .last + 1)
-      (Ctr.ctr (λ b. b) (λ j. join (out (callNumber n (ctr j)))) m) (take (standard .tag) (join (out (callCount n))))
+      sealedRecord x m M ≡ recordOf (senderForm x) (x .number) (x .last + 1)
+      (Ctr.ctr (λ b. b) (λ j. join (out (callNumber n (ctr j)))) m) (take (senderForm x .tag) (join (out (callCount n))))
 
 -- of plain sealing of m under the keys ke and km, with the link number n and the sequence number s: its ciphertext blocks, subkeys, chain
 -- and code are made of the calls' outputs

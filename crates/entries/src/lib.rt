@@ -26,16 +26,16 @@ pub fn fresh_sender() -> Sender {
     links::Sender::fresh()
 }
 
-pub fn key_sender(link: Sender, number: u32, keys: &[u8]) -> SenderKeying {
-    links::Sender::key(link, number, keys)
+pub fn key_sender(link: Sender, number: u32, wide: u32, keys: &[u8]) -> SenderKeying {
+    links::Sender::key(link, number, wide, keys)
 }
 
 pub fn fresh_receiver() -> Receiver {
     opening::Receiver::fresh()
 }
 
-pub fn key_receiver(link: Receiver, number: u32, keys: &[u8]) -> ReceiverKeying {
-    opening::Receiver::key(link, number, keys)
+pub fn key_receiver(link: Receiver, number: u32, wide: u32, keys: &[u8]) -> ReceiverKeying {
+    opening::Receiver::key(link, number, wide, keys)
 }
 
 // ---- sealing, report and opening
@@ -43,11 +43,12 @@ pub fn key_receiver(link: Receiver, number: u32, keys: &[u8]) -> ReceiverKeying 
 pub fn seal_plain(
     keys: &[u8],
     number: u32,
-    sequence: u32,
+    wide: u32,
+    sequence: u64,
     message: &[u8],
     out: &mut [u8],
 ) -> PlainAnswer {
-    plain::seal(keys, number, sequence, message, out)
+    plain::seal(keys, number, wide, sequence, message, out)
 }
 
 pub fn seal(link: Sender, message: &[u8], tape: &[u8], out: &mut [u8]) -> Sealing {
@@ -111,12 +112,12 @@ pub fn c_decrypt_packed(key: &[u8], input: &[u8], output: &mut [u8]) -> u32 {
     rasppuce::rasppuce_decrypt_packed(key, input, output)
 }
 
-pub fn c_key_sender(link: &mut [u8], number: u32, keys: &[u8]) -> u32 {
-    rasppuce::rasppuce_key_sender(link, number, keys)
+pub fn c_key_sender(link: &mut [u8], number: u32, wide: u32, keys: &[u8]) -> u32 {
+    rasppuce::rasppuce_key_sender(link, number, wide, keys)
 }
 
-pub fn c_key_receiver(link: &mut [u8], number: u32, keys: &[u8]) -> u32 {
-    rasppuce::rasppuce_key_receiver(link, number, keys)
+pub fn c_key_receiver(link: &mut [u8], number: u32, wide: u32, keys: &[u8]) -> u32 {
+    rasppuce::rasppuce_key_receiver(link, number, wide, keys)
 }
 
 pub fn c_seal(
@@ -144,11 +145,12 @@ pub fn c_report(
 pub fn c_seal_plain(
     keys: &[u8],
     number: u32,
-    sequence: u32,
+    wide: u32,
+    sequence: u64,
     message: &[u8],
     out: &mut [u8],
 ) -> u32 {
-    rasppuce::rasppuce_seal_plain(keys, number, sequence, message, out)
+    rasppuce::rasppuce_seal_plain(keys, number, wide, sequence, message, out)
 }
 
 pub fn c_open(link: &mut [u8], sealed: &[u8], out: &mut [u8]) -> u32 {

@@ -6,12 +6,12 @@ use shares::Triple;
 use shares::only;
 use words::steps::add;
 ghost use mathlib.Core.Path.{_≡_};
-ghost use Prim.Native.Nat.{_+_, _*_, _≤_, _<_};
+ghost use Prim.Native.Nat.{_+_, _*_, _^_, _≤_, _<_};
 ghost use lib.ListN.{length};
 ghost use Rattle.blocks.specs.Bytes.{part, blockCount, piece};
 ghost use Rattle.words.specs.Words.{unpacked};
 ghost use Rattle.modes.specs.Cmac.{doubled};
-ghost use Rattle.links.specs.Record.{standard, greatest, longest};
+ghost use Rattle.links.specs.Record.{sequenceMost, longest};
 ghost use Rattle.masking.specs.Shares.{each, sharesIn};
 ghost use Rattle.shares.specs.Packed.{sharesOf};
 ghost use Rattle.calls.specs.Sealed.{cut, completed, lastKey, textBlock};
@@ -93,12 +93,12 @@ fn text_block(message: &[u8], outs: &[u8], j: usize) -> Triple
 
 // Block j of what is authenticated: counter block 0, then the ciphertext.
 pub fn mac_block(link: Sender, message: &[u8], outs: &[u8], j: usize) -> Triple
-    requires { ⌜ (link .last < greatest standard) × (j ≤ blockCount (length (now message))) ⌝ }
+    requires { ⌜ (link .last + 1 < 256 ^ sequenceMost) × (j ≤ blockCount (length (now message))) ⌝ }
     requires { ⌜ (length (now message) ≤ longest) × (length (now outs) ≡ outsSize) ⌝ }
     ensures { λ r. ⌜ sharesOf r ≡ blockShares link (now (message .entry)) (now (outs .entry)) j ⌝ }
 {
     if j == 0 {
-        return only(pack(links::counter_block(link.number, (link.last + 1) as u64, 0)));
+        return only(pack(links::counter_block(link.number, link.last + 1, 0)));
     }
     text_block(message, outs, j - 1)
 }

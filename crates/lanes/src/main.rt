@@ -6,6 +6,8 @@ use shares::PAIRS;
 ghost use Prim.Native.Nat.{_≤_};
 ghost use lib.ListN.{length};
 
+const NUMBER: u32 = 0x01020304;
+
 // Prints where a lane is.
 fn place(call: u32, round: u32, lane: u32) {
     show::number(call as u64);
@@ -29,7 +31,7 @@ fn try_lane(link: Sender, tape: &[u8], call: u32, round: u32, lane: u32) {
 
 // Prints the record of a message, its tag's shares and how much of the tape was read.
 fn seal(link: Sender, message: &[u8], tape: &[u8]) -> Sender {
-    let mut record = [0u8; 280];
+    let mut record = [0u8; 284];
     let sealed = sealing::seal(link, message, tape, &mut record);
     let answer = sealed.answer;
     let shares = sealed.shares;
@@ -131,6 +133,48 @@ fn reports(link: Sender) {
     lanes(link, &message, &tape, 6);
 }
 
+// The link of that width, keyed with other keys, and with this last number.
+fn link_with(wide: u32, last: u64) -> Sender {
+    let mut keys = [0u8; 96];
+    show::fill(&mut keys, 2, 5);
+    let keying = Sender::fresh().key(NUMBER, wide, &keys);
+    let mut link = keying.link;
+    link.last = last;
+    link
+}
+
+// Prints the number that the report on such a link gives, where the message is empty.
+fn try_last(what: &[u8], wide: u32, last: u64) {
+    let link = link_with(wide, last);
+    try_report(what, link, b"", &[0; 2368], &mut [0; 48]);
+}
+
+// A wide link that goes past the greatest number of a narrow one.
+fn wide_link(link: Sender) {
+    let mut message = [0u8; 17];
+    let mut tape = [0u8; 6976];
+    show::fill(&mut message, 3, 7);
+    show::fill(&mut tape, 5, 13);
+    seal(link, &message, &tape);
+    lanes(link, &message, &tape, 1);
+}
+
+// Last numbers at the greatest of a width, above it and below it.
+fn last_numbers() {
+    try_last(b"report narrow last 4294967295 ", 0, 4294967295);
+    try_last(b"report narrow last 4294967296 ", 0, 4294967296);
+    try_last(
+        b"report wide last 18446744073709551614 ",
+        1,
+        18446744073709551614,
+    );
+    try_last(
+        b"report wide last 18446744073709551615 ",
+        1,
+        18446744073709551615,
+    );
+}
+
 fn main() {
     let mut keys = [0u8; 96];
     let mut message = [0u8; 256];
@@ -138,7 +182,7 @@ fn main() {
     show::fill(&mut keys, 1, 11);
     show::fill(&mut message, 3, 7);
     show::fill(&mut tape, 5, 13);
-    let keying = Sender::fresh().key(0x01020304, &keys);
+    let keying = Sender::fresh().key(NUMBER, 0, &keys);
     let mut link = keying.link;
     for i in 0..7 {
         let next = seal_first(link, &message, length(i), &tape, 0);
@@ -149,4 +193,6 @@ fn main() {
     seal_first(link, &message, 0, &tape, 1);
     refused_reports(link);
     refused_lanes(link);
+    wide_link(link_with(1, 4294967295));
+    last_numbers();
 }

@@ -1,12 +1,15 @@
 -- The bytes of a link say that link; bytes of its size whose flag is 0 or 1 are those of the link that they say. For any sizes of keys and
--- tail. Assumes nothing.
+-- tail. A width in the last byte. Assumes nothing.
 use Rattle.prelude.proofs.{_≡_, refl, sym, ap, _∙_, Bool, true, false, List, [], _∷_, _++_, append-assoc, ℕ, zero, suc, _+_, _^_, _≤_}
 use Rattle.prelude.proofs.{_<_, arith, eqb, length, getD, take, drop, length-append, take-append-drop, take-at, drop-at, drop-drop}
+use Rattle.prelude.proofs.{ap₂, _&&_, leb, drop-length, drop-cons, le-leb, eqb-true, eq-eqb}
 use Rattle.blocks.specs.Bytes.{Bytes, bigEndian, put}
 use Rattle.blocks.proofs.{Numbers.bigEndian-length, Numbers.bigEndian-says, Numbers.bigEndian-part, Parts.put-put, Parts.put-whole}
-use Rattle.links.specs.Record.{numberSize}
+use Rattle.blocks.proofs.Same.{both-true}
+use Rattle.links.specs.{Record.numberSize, Record.told, declared.Width.Width}
+use Rattle.links.specs.declared.Width.the-variants.{Narrow, Wide}
 use Rattle.layout.specs.Layout.{lastSize, numberAt, lastAt, keysAt, linkSize, flag, linkBytes, keyedIn, numberIn, lastIn, keysIn}
-use Rattle.layout.specs.Layout.{tailIn}
+use Rattle.layout.specs.Layout.{tailIn, widthByte, sound}
 
 -- ---- written, part by part
 
@@ -84,3 +87,32 @@ bytes-said p q (y ∷ b) h f k x l e m t s =
     (λ i. linkBytes (s .keyed i) (s .number i) (s .last i) (s .ke i) (s .km i) (s .tail i))
     ∙ (λ i. first-byte y f i ∷ (number i ++ (last i ++ keys i)))
     ∙ rw (← drop-drop lastSize numberSize b, take-append-drop lastSize (drop numberSize b), take-append-drop numberSize b)
+
+-- ---- the width, in a link's last byte
+
+pub width-read : (w : Width) → told (widthByte w) ≡ w
+width-read Narrow = refl
+width-read Wide = refl
+
+pub width-byte : (w : Width) → widthByte w ≤ 1
+width-byte Narrow = omega arith
+width-byte Wide = omega arith
+
+pub width-written : (x : ℕ) → x ≤ 1 → widthByte (told x) ≡ x
+width-written zero h = refl
+width-written (suc zero) h = refl
+width-written (suc (suc x)) h = absurd (omega arith)
+
+-- behind all bytes but one stands that one
+pub last-byte : (b : List ℕ) (n : ℕ) → length b ≡ n + 1 → getD b n 0 ∷ [] ≡ drop n b
+last-byte b n e =
+    let s : suc n ≡ length b = omega arith in
+    ap (λ (z : List ℕ). getD b n 0 ∷ z) (sym (ap (λ (k : ℕ). drop k b) s ∙ drop-length b)) ∙ sym (drop-cons b n 0 (omega arith))
+
+-- ---- bytes that can say a link
+
+pub sound-size : (size p : ℕ) (b : List ℕ) → sound size p b ≡ true → length b ≡ size
+sound-size size p b e = eqb-true (length b) size (both-true (eqb (length b) size) (leb (getD b p 0) 1) e .0)
+
+pub is-sound : (size p : ℕ) (b : List ℕ) → length b ≡ size → getD b p 0 ≤ 1 → sound size p b ≡ true
+is-sound size p b e h = ap₂ _&&_ (eq-eqb (length b) size e) (le-leb (getD b p 0) 1 h)

@@ -1,15 +1,17 @@
 -- Links as bytes: a flag, link number, last number, keys, and a tail. Assumes nothing.
-use mathlib.Core.Bool.{Bool, true, false}
+use mathlib.Core.Bool.{Bool, true, false, _&&_}
 use mathlib.Core.List.{List, _∷_, _++_}
 use Prim.Native.Nat.{ℕ, _+_}
-use lib.Dec.{eqb}
-use lib.ListN.{drop, getD}
+use lib.Dec.{eqb, leb}
+use lib.ListN.{length, drop, getD}
 use Rattle.blocks.specs.Bytes.{bigEndian, value, part}
-use Rattle.links.specs.Record.{numberSize}
+use Rattle.links.specs.Record.{numberSize, sequenceMost, told}
+use Rattle.links.specs.declared.Width.{Width}
+use Rattle.links.specs.declared.Width.the-variants.{Narrow, Wide}
 
 -- the bytes of the last number used, of a receiver the highest accepted
 abbrev pub lastSize : ℕ
-lastSize = 4
+lastSize = sequenceMost
 
 -- where the link number, the last number and the keys begin
 abbrev pub numberAt : ℕ
@@ -29,6 +31,11 @@ linkSize k t = keysAt + (k + t)
 abbrev pub flag : Bool → ℕ
 flag true = 1
 flag false = 0
+
+-- the width, a byte of the tail
+abbrev pub widthByte : Width → ℕ
+widthByte Narrow = 0
+widthByte Wide = 1
 
 abbrev pub linkBytes : Bool → ℕ → ℕ → List ℕ → List ℕ → List ℕ → List ℕ
 linkBytes keyed number last ke km tail = flag keyed ∷ (bigEndian numberSize number ++ (bigEndian lastSize last ++ (ke ++ (km ++ tail))))
@@ -51,3 +58,11 @@ keysIn p n b = part (keysAt + p) n b
 -- behind k bytes of keys
 abbrev pub tailIn : ℕ → List ℕ → List ℕ
 tailIn k b = drop (keysAt + k) b
+
+-- the width, in the byte at p
+abbrev pub widthIn : ℕ → List ℕ → Width
+widthIn p b = told (getD b p 0)
+
+-- bytes that can say a link of that size: as many, and what stands for the width is in its range
+abbrev pub sound : ℕ → ℕ → List ℕ → Bool
+sound size p b = eqb (length b) size && leb (getD b p 0) 1

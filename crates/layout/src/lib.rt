@@ -1,11 +1,13 @@
 // Links as bytes: a flag, link number, last number, keys, and a tail. Keying them.
+use links::Width;
 ghost use mathlib.Core.Path.{_≡_};
 ghost use mathlib.Core.Bool.{true};
 ghost use mathlib.Core.List.{[]};
-ghost use Prim.Native.Nat.{_+_, _≤_};
+ghost use Prim.Native.Nat.{_+_, _≤_, _<_};
 ghost use lib.ListN.{length};
 ghost use Rattle.answers.specs.Answer.{numberOf, ifDone};
 ghost use Rattle.layout.specs.Layout.{keysAt, linkSize, flag, linkBytes, keyedIn, numberIn, lastIn, keysIn};
+ghost use Rattle.layout.specs.Layout.{widthByte, widthIn, sound};
 ghost use Rattle.layout.specs.Keying.{keyingAnswer};
 
 // Where the link number, the last number and the keys begin.
@@ -16,9 +18,20 @@ const LAST_AT: usize = NUMBER_AT + links::NUMBER;
 pub const KEYS_AT: usize = LAST_AT + LAST;
 
 // The bytes of the last number used, of a receiver the highest accepted.
-const LAST: usize = 4;
+const LAST: usize = links::SEQUENCE_MOST;
 
 // ---- reading
+
+// Whether bytes can say a link of that size, with its width at p.
+pub fn sound(bytes: &[u8], size: usize, p: usize) -> bool
+    requires { ⌜ p < size ⌝ }
+    ensures { λ r. ⌜ r ≡ sound size p (now (bytes .entry)) ⌝ }
+{
+    if bytes.len() != size {
+        return false;
+    }
+    bytes[p] <= 1
+}
 
 pub fn keyed(bytes: &[u8]) -> bool
     requires { ⌜ keysAt ≤ length (now bytes) ⌝ }
@@ -34,11 +47,11 @@ pub fn number(bytes: &[u8]) -> u32
     blocks::word_at(bytes, NUMBER_AT)
 }
 
-pub fn last(bytes: &[u8]) -> u32
+pub fn last(bytes: &[u8]) -> u64
     requires { ⌜ keysAt ≤ length (now bytes) ⌝ }
     ensures { λ r. ⌜ r ≡ lastIn (now (bytes .entry)) ⌝ }
 {
-    blocks::word_at(bytes, LAST_AT)
+    blocks::number_at(bytes, LAST_AT, LAST)
 }
 
 // The block of key material from its byte p, and the three blocks.
@@ -56,7 +69,25 @@ pub fn key_blocks(bytes: &[u8], p: usize) -> [u8; 48]
     blocks::blocks_at(bytes, KEYS_AT + p)
 }
 
+// The width, in the byte at p.
+pub fn width(bytes: &[u8], p: usize) -> Width
+    requires { ⌜ p < length (now bytes) ⌝ }
+    ensures { λ r. ⌜ r ≡ widthIn p (now (bytes .entry)) ⌝ }
+{
+    Width::told(bytes[p] as u32)
+}
+
 // ---- writing
+
+// The byte that says a width.
+pub fn width_byte(width: Width) -> u8
+    ensures { λ r. ⌜ r ≡ widthByte width ⌝ }
+{
+    match width {
+        Width::Narrow => 0,
+        Width::Wide => 1,
+    }
+}
 
 fn flag_of(keyed: bool) -> u8
     ensures { λ r. ⌜ r ≡ flag keyed ⌝ }

@@ -1,3 +1,4 @@
 pub mod Keying
+pub mod Widths
 pub mod Record
 pub mod Fields

@@ -6,6 +6,10 @@ use lib.Dec.{eqb}
 use lib.ListN.{length, replicate}
 use Rattle.blocks.specs.Bytes.{part}
 use Rattle.answers.specs.Answer.{Answer, done, refused, Cause, _when_, first}
+use Rattle.links.specs.Record.{formOf}
+use Rattle.links.specs.declared.Form.{Form}
+use Rattle.links.specs.declared.Width.{Width}
+use Rattle.links.specs.declared.Width.the-variants.{Narrow}
 use Rattle.links.specs.declared.Sender.{Sender}
 use Rattle.links.specs.declared.KeyAnswer.{KeyAnswer}
 use Rattle.links.specs.declared.KeyAnswer.the-variants.{Keyed, BadKeys}
@@ -27,8 +31,12 @@ keyAnswer n keys = first (keyCauses n keys) (done [])
 
 -- a fresh link is all zeros and not keyed
 abbrev pub freshSender : Sender
-freshSender = record { keyed = false; number = 0; last = 0; ke = replicate 48 0; km = replicate 48 0 }
+freshSender = record { keyed = false; number = 0; last = 0; width = Narrow; ke = replicate 48 0; km = replicate 48 0 }
 
--- the link number n keyed with the given bytes
-abbrev pub senderOf : ℕ → List ℕ → Sender
-senderOf n keys = record { keyed = true; number = n; last = 0; ke = part 0 48 keys; km = part 48 48 keys }
+-- the link number n of the width w, keyed with the given bytes
+abbrev pub senderOf : ℕ → Width → List ℕ → Sender
+senderOf n w keys = record { keyed = true; number = n; last = 0; width = w; ke = part 0 48 keys; km = part 48 48 keys }
+
+-- the form of its records
+abbrev pub senderForm : Sender → Form
+senderForm x = formOf (x .width)

@@ -1,9 +1,13 @@
--- The form of a record, and the layouts of a record and of a counter block. Assumes nothing.
+-- The width of a link, the form of its records, and the layouts of a record and of a counter block. Assumes nothing.
+use mathlib.Core.Bool.{Bool, _&&_}
 use mathlib.Core.List.{List, _++_}
-use Prim.Native.Nat.{ℕ, _+_, _-_, _^_, _≤_}
+use Prim.Native.Nat.{ℕ, zero, suc, _+_, _-_, _^_, _≤_}
+use lib.Dec.{leb}
 use lib.ListN.{length, drop}
 use Rattle.blocks.specs.Bytes.{bigEndian, value, part}
 use Rattle.links.specs.declared.Form.{Form}
+use Rattle.links.specs.declared.Width.{Width}
+use Rattle.links.specs.declared.Width.the-variants.{Narrow, Wide}
 
 -- ---- sizes, in bytes
 
@@ -27,10 +31,6 @@ longest = 256
 
 -- ---- the form of a record: the bytes of its sequence number and of its tag
 
--- the form of every link
-abbrev pub standard : Form
-standard = record { sequence = 4; tag = 16 }
-
 -- a form that a record can have
 pub record Proper (f : Form) : Type 0 where
   pub sequence : f .sequence ≤ sequenceMost
@@ -50,6 +50,24 @@ module _ (f : Form) where
   -- the greatest sequence number
   abbrev pub greatest : ℕ
   greatest = 256 ^ f .sequence - 1
+
+  -- whether a link of such records, keyed or not, counts as keyed with s for its last number or its highest
+  abbrev pub usable : Bool → ℕ → Bool
+  usable keyed s = keyed && leb s greatest
+
+-- ---- the width of a link: how many bytes its records have for their sequence numbers
+
+-- told 0 a link is narrow, told any other number wide
+abbrev pub told : ℕ → Width
+told zero = Narrow
+told (suc n) = Wide
+
+abbrev pub sequenceSize : Width → ℕ
+sequenceSize Narrow = 4
+sequenceSize Wide = 8
+
+abbrev pub formOf : Width → Form
+formOf w = record { sequence = sequenceSize w; tag = tagMost }
 
 -- ---- layouts
 

@@ -1,11 +1,13 @@
-// The form of a record; the sending link: what a sender holds between two calls, and its keying; counter blocks, heads.
+// The width of a link, the form of its records; the sending link: what a sender holds between two calls, and its keying; counter
+// blocks, heads.
 ghost use mathlib.Core.Path.{_≡_};
 ghost use Prim.Native.Nat.{_≤_};
 ghost use lib.ListN.{length};
 ghost use Rattle.blocks.specs.Bytes.{put};
 ghost use Rattle.answers.specs.Answer.{numberOf, ifDone};
 ghost use Rattle.links.specs.Links.{senderKeys, keySays, keyAnswer, freshSender, senderOf};
-ghost use Rattle.links.specs.Record.{standard, Proper, headSize, added, counterBlock, headOf};
+ghost use Rattle.links.specs.Record.{Proper, headSize, added, greatest, told, formOf, usable};
+ghost use Rattle.links.specs.Record.{counterBlock, headOf};
 
 // ---- sizes, in bytes
 
@@ -20,8 +22,8 @@ pub const SEQUENCE_MOST: usize = 8;
 // The longest message.
 pub const LONGEST: usize = 256;
 
-// The greatest sequence number.
-pub const GREATEST: u32 = 4294967295;
+// A tag.
+const TAG: usize = 16;
 
 // The form of a record: the bytes of its sequence number and of its tag.
 pub struct Form {
@@ -30,16 +32,6 @@ pub struct Form {
 }
 
 impl Form {
-    // The form of every link.
-    pub fn standard() -> Form
-        ensures { λ r. ⌜ r ≡ standard ⌝ }
-    {
-        Form {
-            sequence: 4,
-            tag: 16,
-        }
-    }
-
     // The bytes before the ciphertext.
     pub fn head(self) -> usize
         requires { ⌜ Proper self ⌝ }
@@ -57,13 +49,63 @@ impl Form {
     }
 }
 
+// ---- the width of a link
+
+// How many bytes its records have for their sequence numbers: four or eight.
+pub enum Width {
+    Narrow,
+    Wide,
+}
+
+impl Width {
+    // Narrow for 0, wide for any other number.
+    pub fn told(wide: u32) -> Width
+        ensures { λ r. ⌜ r ≡ told wide ⌝ }
+    {
+        if wide == 0 {
+            Width::Narrow
+        } else {
+            Width::Wide
+        }
+    }
+
+    // The form of its records.
+    pub fn form(self) -> Form
+        ensures { λ r. ⌜ r ≡ formOf self ⌝ }
+    {
+        let sequence = match self {
+            Width::Narrow => 4,
+            Width::Wide => 8,
+        };
+        Form { sequence, tag: TAG }
+    }
+
+    // The greatest sequence number.
+    pub fn greatest(self) -> u64
+        ensures { λ r. ⌜ r ≡ greatest (formOf self) ⌝ }
+    {
+        match self {
+            Width::Narrow => 4294967295,
+            Width::Wide => 18446744073709551615,
+        }
+    }
+}
+
+// Whether a link, keyed or not, counts as keyed with this for its last number or its highest.
+pub fn usable(keyed: bool, width: Width, number: u64) -> bool
+    ensures { λ r. ⌜ r ≡ usable (formOf width) keyed number ⌝ }
+{
+    keyed && number <= width.greatest()
+}
+
 // ---- the sending link
 
-// The link's number, the last sequence number used, and the keys KE and KM as three shares each.
+// The link's number, the last sequence number used, its width, and the keys KE and KM as three shares each.
 pub struct Sender {
     pub keyed: bool,
     pub number: u32,
-    pub last: u32,
+    pub last: u64,
+    pub width: Width,
     pub ke: [u8; 48],
     pub km: [u8; 48],
 }
@@ -99,15 +141,17 @@ impl Sender {
             keyed: false,
             number: 0,
             last: 0,
+            width: Width::Narrow,
             ke: [0; 48],
             km: [0; 48],
         }
     }
 
-    // Keys the link: three shares of KE, then three of KM.
-    pub fn key(self, number: u32, keys: &[u8]) -> SenderKeying
+    // Keys the link, narrow where it is told 0: three shares of KE, then three of KM.
+    pub fn key(self, number: u32, wide: u32, keys: &[u8]) -> SenderKeying
         ensures { λ r. ⌜ keySays (r .answer) ≡ keyAnswer senderKeys (now (keys .entry)) ⌝ }
-        ensures { λ r. ⌜ r .link ≡ ifDone (keyAnswer senderKeys (now (keys .entry))) (senderOf number (now (keys .entry))) self ⌝ }
+        ensures { λ r. ⌜ r .link
+            ≡ ifDone (keyAnswer senderKeys (now (keys .entry))) (senderOf number (told wide) (now (keys .entry))) self ⌝ }
     {
         if keys.len() != 96 {
             return SenderKeying {
@@ -123,6 +167,7 @@ impl Sender {
                 keyed: true,
                 number,
                 last: 0,
+                width: Width::told(wide),
                 ke,
                 km,
             },

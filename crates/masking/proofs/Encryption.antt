@@ -6,11 +6,11 @@ use Rattle.blocks.proofs.ByBits.{rearranged-block, rearranged-twice, rearranged
 use Rattle.baksheesh.specs.Baksheesh.{rounds, from, permBits, constant, rotated, round, after, encrypt}
 use Rattle.baksheesh.proofs.Steps.{constant-block}
 use Rattle.masking.specs.Shares.{Index, i₀, i₁, i₂, next, isFirst, Shares, Blocks, join, add, each, only, Reader, pairSize, masksAt}
-use Rattle.masking.specs.Stages.{state, call, masked, shownShares, lane, plainAfter}
-use Rattle.masking.specs.Call.{shareRound, laneRound, encryption, callSize, plainEncryption}
+use Rattle.masking.specs.Stages.{state, masked, shownShares, lane, plainAfter}
+use Rattle.masking.specs.Call.{shareRound, laneRound, encryption, plainEncryption}
 use Rattle.masking.specs.{Sbox.sboxShares, OneTape.roundOnLane}
 use Rattle.masking.proofs.Shape.{Reads, add-blocks, only-blocks, StageBlocks}
-use Rattle.masking.proofs.Joins.{join-add, join-only, join-map, rearranged-linear, StageJoins, call-join}
+use Rattle.masking.proofs.Joins.{join-add, join-only, join-map, rearranged-linear, StageJoins}
 use Rattle.masking.proofs.Lane.{lane-next, lane-after, lane-key}
 use Rattle.masking.proofs.{Sbox.sboxShares-blocks, Sbox.sboxShares-join, Probe.Turn}
 
@@ -51,10 +51,6 @@ plain-after key input (suc n) = ap (round n (rotated (suc n) key)) (plain-after 
 pub plain-encrypts : (key input : List ℕ) → plainAfter plainEncryption key input rounds ≡ encrypt key input
 unfolding encrypt
 plain-encrypts key input = plain-after key input rounds
-
-pub call-encrypts : {key input : Shares} (M : Reader) (o : ℕ) → Blocks key → Blocks input → Reads M (o + callSize)
-    → join (call encryption key input M o) ≡ encrypt (join key) (join input)
-call-encrypts M o p q h = call-join encryption-blocks encryption-joins M o p q h ∙ plain-encrypts _ _
 
 -- ---- the shown key
 

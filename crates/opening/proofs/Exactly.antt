@@ -7,14 +7,16 @@ use Rattle.blocks.proofs.{Parts.part-length, Parts.part-bytes, Numbers.part-lt,
 use Rattle.answers.specs.Answer.{done, refused, Accepts, FirstOf, NoneOf}
 use Rattle.answers.proofs.First.{done-none, accepts-none, none-accepts, if-done, if-refused, eq-not}
 use Rattle.answers.proofs.First as First
-use Rattle.links.specs.Record.{Proper, longest, added, recordSize, numberSize, headSize, recordOf, linkIn, sequenceIn, textIn, tagIn}
+use Rattle.links.specs.Record.{Proper, longest, formOf, added, recordSize, numberSize, headSize, usable, recordOf}
+use Rattle.links.specs.Record.{linkIn, sequenceIn, textIn, tagIn}
 use Rattle.links.specs.declared.Form.{Form}
-use Rattle.links.proofs.Record.{record-made}
+use Rattle.links.specs.declared.Width.{Width}
+use Rattle.links.proofs.{Record.record-made, Widths.proper, Widths.keyed-usable, Widths.usable-exactly}
 use Rattle.plain.specs.Plain.{crypted, tagOf, plainRecord}
 use Rattle.plain.proofs.Sealed.{crypted-length, crypted-bytes, crypted-twice, plain-length, plain-link, plain-sequence, plain-text}
 use Rattle.plain.proofs.Sealed.{plain-tag}
 use Rattle.window.specs.Window.{Admitted}
-use Rattle.window.proofs.Admits.{passes-admitted, admitted-passes}
+use Rattle.window.proofs.Admits.{passes-admitted, admitted-passes, after-highest}
 use Rattle.opening.specs.Open.{openAnswer, openCauses, openLink, openOutput, accepting, messageIn, messageSize, rightTag}
 use Rattle.opening.specs.Exactly.{Formed, Opens, Sealed}
 use Rattle.opening.specs.{declared.Receiver.Receiver, Receivers.receiverKeys, Receivers.receiverOf}
@@ -82,7 +84,7 @@ module _ (f : Form) (P : Proper f) (C : List ℕ → List ℕ → List ℕ) (M :
     message : messageIn f C x r ≡ m
     message = ap₂ (λ (k : ℕ) (c : List ℕ). crypted E (x .number) k c) sequence text ∙ crypted-twice E e-makes (x .number) s m
 
-    sealed-none : (o : ℕ) → x .keyed ≡ true → length r ≤ recordSize f o → NoneOf (openCauses f C x r o)
+    sealed-none : (o : ℕ) → usable f (x .keyed) (x .window .highest) ≡ true → length r ≤ recordSize f o → NoneOf (openCauses f C x r o)
     sealed-none o keyed room =
         let l = long in
         let same = ap (λ (t : List ℕ). not (sameBytes (rightTag f C x r) t)) (sym tag) ∙ ap not (same-refl (rightTag f C x r)) in
@@ -94,21 +96,23 @@ module _ (f : Form) (P : Proper f) (C : List ℕ → List ℕ → List ℕ) (M :
 
   -- ---- accepted exactly
 
-  -- opening accepts, whatever values it returns, exactly where the link is keyed, the output has room for the message, and the record is
-  -- one that sealing makes for this link with a number that its window admits
+  -- opening accepts, whatever values it returns, exactly where the link counts as keyed, the output has room for the message, and the
+  -- record is one that sealing makes for this link with a number that its window admits
   pub accepts-exactly : (r o : List ℕ) → Bytes r → Accepts (openAnswer f C x r (length o))
-      ↔ ((x .keyed ≡ true) × (length r ≤ recordSize f (length o)) × ((m : List ℕ) × (s : ℕ) × Sealed f C x r m s))
+      ↔ ((usable f (x .keyed) (x .window .highest) ≡ true) × (length r ≤ recordSize f (length o))
+      × ((m : List ℕ) × (s : ℕ) × Sealed f C x r m s))
   unfolding openAnswer
   accepts-exactly r o b = (
     (λ e.
         let h = accepts-none (openCauses f C x r (length o)) _ tt e in
         let room = ltb-false (length o) (messageSize f r) (h .1 .1 .1 .1 .0) in
-        (not-false (x .keyed) (h .0), omega arith, (messageIn f C x r, sequenceIn f r, none-sealed r b (length o) h))),
+        let keyed = not-false (usable f (x .keyed) (x .window .highest)) (h .0) in
+        (keyed, omega arith, (messageIn f C x r, sequenceIn f r, none-sealed r b (length o) h))),
     (λ S. none-accepts (openCauses f C x r (length o)) _ (sealed-none r (S .2 .0) (S .2 .1) (S .2 .2) (length o) (S .0) (S .1))),
   )
 
   -- and then the values, the message written and the link are those of that message and number
-  pub opened-exactly : (r o m : List ℕ) (s : ℕ) → x .keyed ≡ true → length r ≤ recordSize f (length o)
+  pub opened-exactly : (r o m : List ℕ) (s : ℕ) → usable f (x .keyed) (x .window .highest) ≡ true → length r ≤ recordSize f (length o)
       → Sealed f C x r m s → Opens f C x r o m (accepting x s)
   unfolding openAnswer
   opened-exactly r o m s keyed room S =
@@ -121,6 +125,16 @@ module _ (f : Form) (P : Proper f) (C : List ℕ → List ℕ → List ℕ) (M :
         link = sym (if-done answer (accepting x (sequenceIn f r)) x) ∙ ap (accepting x) (sequence r m s S);
         out = sym (if-done answer (put 0 (messageIn f C x r) o) o) ∙ ap (λ (z : List ℕ). put 0 z o) (message r m s S);
       }
+
+  -- the link that is left counts as keyed as well
+  pub accepting-usable : (r m : List ℕ) (s : ℕ) → usable f (x .keyed) (x .window .highest) ≡ true → Sealed f C x r m s
+      → usable f (accepting x s .keyed) (accepting x s .window .highest) ≡ true
+  accepting-usable r m s keyed S =
+      let u = usable-exactly f (x .keyed) (x .window .highest) .0 keyed in
+      let fits = S .fits in
+      let h : accepting x s .window .highest < 256 ^ f .sequence =
+      after-highest (x .window) s (256 ^ f .sequence) (omega (arith, u .1)) fits in
+      usable-exactly f (x .keyed) (accepting x s .window .highest) .1 (u .0, omega arith)
 
   -- the message and the number are the record's alone
   pub sealed-once : (r m m′ : List ℕ) (s s′ : ℕ) → Sealed f C x r m s → Sealed f C x r m′ s′ → (m ≡ m′) × (s ≡ s′)
@@ -141,20 +155,22 @@ module _ (f : Form) (C : List ℕ → List ℕ → List ℕ) (x : Receiver) wher
 -- ---- links hold what they can, and the keys that they were given
 
 -- keying with 32 bytes makes such a link
-pub keyed-formed : (n : ℕ) (keys : List ℕ) → n < 256 ^ numberSize → length keys ≡ receiverKeys → Bytes keys → Formed (receiverOf n keys)
-keyed-formed n keys h e b = record {
+pub keyed-formed : (n : ℕ) (w : Width) (keys : List ℕ) → n < 256 ^ numberSize → length keys ≡ receiverKeys → Bytes keys
+    → Formed (receiverOf n w keys)
+keyed-formed n w keys h e b = record {
   number = h;
   ke = record { size = part-length 0 16 keys (omega arith); bytes = part-bytes 0 16 keys b };
   km = record { size = part-length 16 16 keys (omega arith); bytes = part-bytes 16 16 keys b };
 }
 
--- what plain sealing makes under 32 bytes of keys, a link opens that was keyed with these
-pub keyed-opens : (f : Form) → Proper f → (C : List ℕ → List ℕ → List ℕ) → ((k : List ℕ) → Block k → MakesBlocks (C k))
+-- what plain sealing makes under 32 bytes of keys, a link of the same width opens that was keyed with these
+pub keyed-opens : (w : Width) (C : List ℕ → List ℕ → List ℕ) → ((k : List ℕ) → Block k → MakesBlocks (C k))
     → (n s : ℕ) (keys m o : List ℕ) → n < 256 ^ numberSize → length keys ≡ receiverKeys → Bytes keys
-    → 0 < s → s < 256 ^ f .sequence → Bytes m → length m ≤ longest → length m ≤ length o
-    → Opens f C (receiverOf n keys) (plainRecord f (C (part 0 16 keys)) (C (part 16 16 keys)) n s m) o m (accepting (receiverOf n keys) s)
-keyed-opens f P C M n s keys m o h e b above fits bm size room =
-    let F = keyed-formed n keys h e b in
-    let l = plain-length f P _ _ (M _ (F .ke)) (M _ (F .km)) n s m bm in
-    opened-exactly f P C M (receiverOf n keys) F _ o m s refl (omega arith)
+    → 0 < s → s < 256 ^ formOf w .sequence → Bytes m → length m ≤ longest → length m ≤ length o
+    → Opens (formOf w) C (receiverOf n w keys) (plainRecord (formOf w) (C (part 0 16 keys)) (C (part 16 16 keys)) n s m) o m
+    (accepting (receiverOf n w keys) s)
+keyed-opens w C M n s keys m o h e b above fits bm size room =
+    let F = keyed-formed n w keys h e b in
+    let l = plain-length (formOf w) (proper w) _ _ (M _ (F .ke)) (M _ (F .km)) n s m bm in
+    opened-exactly (formOf w) (proper w) C M (receiverOf n w keys) F _ o m s (keyed-usable w) (omega arith)
     (record { size = size; bytes = bm; admitted = (above, inl above); fits = fits; made = refl })

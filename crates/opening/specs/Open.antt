@@ -7,7 +7,7 @@ use lib.Dec.{eqb, ltb}
 use lib.ListN.{length}
 use Rattle.blocks.specs.Bytes.{sameBytes}
 use Rattle.answers.specs.Answer.{Answer, done, refused, Cause, _when_, first, ifDone, output}
-use Rattle.links.specs.Record.{longest, added, recordSize, linkIn, sequenceIn, textIn, tagIn}
+use Rattle.links.specs.Record.{longest, added, recordSize, usable, linkIn, sequenceIn, textIn, tagIn}
 use Rattle.links.specs.declared.Form.{Form}
 use Rattle.plain.specs.Plain.{crypted, tagOf}
 use Rattle.window.specs.Window.{below, repeated, after}
@@ -38,7 +38,7 @@ messageSize f r = length r - added f
 
 -- the link with another window, and with the sequence number s accepted
 abbrev pub withWindow : Receiver → Window → Receiver
-withWindow x w = record { keyed = x .keyed; number = x .number; window = w; ke = x .ke; km = x .km }
+withWindow x w = record { keyed = x .keyed; number = x .number; window = w; width = x .width; ke = x .ke; km = x .km }
 
 abbrev pub accepting : Receiver → ℕ → Receiver
 accepting x s = withWindow x (after (x .window) s)
@@ -65,7 +65,7 @@ module _ (f : Form) (C : List ℕ → List ℕ → List ℕ) (x : Receiver) (r :
   -- opening the record r on the link x with room for o bytes
   abbrev pub openCauses : ℕ → List Cause
   openCauses o =
-      (20 when not (x .keyed))
+      (20 when not (usable f (x .keyed) (x .window .highest)))
       ∷ (7 when ltb (length r) (recordSize f 0))
       ∷ (7 when ltb (recordSize f longest) (length r))
       ∷ (8 when not (eqb (linkIn r) (x .number)))

@@ -1,6 +1,7 @@
 // The receiving link: what a receiver holds between two calls, its keying, and opening.
 use links::Form;
 use links::KeyAnswer;
+use links::Width;
 use window::Window;
 ghost use mathlib.Core.Path.{_≡_};
 ghost use Prim.Native.Nat.{_≤_};
@@ -9,16 +10,17 @@ ghost use Rattle.blocks.specs.Bytes.{sameBytes, put};
 ghost use Rattle.answers.specs.Answer.{numberOf, ifDone, output};
 ghost use Rattle.baksheesh.specs.Baksheesh.{encrypt};
 ghost use Rattle.links.specs.Links.{keySays, keyAnswer};
-ghost use Rattle.links.specs.Record.{standard, Proper, sequenceIn, tagIn};
+ghost use Rattle.links.specs.Record.{Proper, told, sequenceIn, tagIn};
 ghost use Rattle.opening.specs.Open.{RecordSized, messageSize, accepting, rightTag, messageIn, verifyAnswer};
 ghost use Rattle.opening.specs.Open.{openSays, openAnswer, openLink, openOutput};
-ghost use Rattle.opening.specs.Receivers.{receiverKeys, freshReceiver, receiverOf};
+ghost use Rattle.opening.specs.Receivers.{receiverKeys, freshReceiver, receiverOf, receiverForm};
 
-// The link's number, the window of the sequence numbers accepted, and the keys KE and KM.
+// The link's number, the window of the sequence numbers accepted, its width, and the keys KE and KM.
 pub struct Receiver {
     pub keyed: bool,
     pub number: u32,
     pub window: Window,
+    pub width: Width,
     pub ke: [u8; 16],
     pub km: [u8; 16],
 }
@@ -130,14 +132,16 @@ fn verify(
     }
 }
 
-// Opens a record of the given form, and hands the link back: its window moved where the record was accepted.
+// Opens a record of the link's form, and hands the link back: its window moved where the record was accepted.
 fn open_in(form: Form, link: Receiver, sealed: &[u8], out: &mut [u8]) -> Opening
-    requires { ⌜ Proper form ⌝ }
+    requires { ⌜ form ≡ receiverForm link ⌝ }
     ensures { λ r. ⌜ openSays (r .answer) ≡ openAnswer form encrypt link (now (sealed .entry)) (length (now (out .entry))) ⌝ }
     ensures { λ r. ⌜ r .link ≡ openLink form encrypt link (now (sealed .entry)) (length (now (out .entry))) ⌝ }
     ensures { λ r. ⌜ now (out .exit) ≡ openOutput form encrypt link (now (sealed .entry)) (now (out .entry)) ⌝ }
 {
-    if !link.keyed {
+    let window = link.window;
+    let width = link.width;
+    if !links::usable(link.keyed, width, window.highest) {
         return refused(link, OpenAnswer::NotKeyed);
     }
     let n = sealed.len();
@@ -169,15 +173,17 @@ impl Receiver {
             keyed: false,
             number: 0,
             window: Window::empty(),
+            width: Width::Narrow,
             ke: [0; 16],
             km: [0; 16],
         }
     }
 
-    // Keys the link: KE, then KM.
-    pub fn key(self, number: u32, keys: &[u8]) -> ReceiverKeying
+    // Keys the link, narrow where it is told 0: KE, then KM.
+    pub fn key(self, number: u32, wide: u32, keys: &[u8]) -> ReceiverKeying
         ensures { λ r. ⌜ keySays (r .answer) ≡ keyAnswer receiverKeys (now (keys .entry)) ⌝ }
-        ensures { λ r. ⌜ r .link ≡ ifDone (keyAnswer receiverKeys (now (keys .entry))) (receiverOf number (now (keys .entry))) self ⌝ }
+        ensures { λ r. ⌜ r .link
+            ≡ ifDone (keyAnswer receiverKeys (now (keys .entry))) (receiverOf number (told wide) (now (keys .entry))) self ⌝ }
     {
         if keys.len() != 32 {
             return ReceiverKeying {
@@ -193,6 +199,7 @@ impl Receiver {
                 keyed: true,
                 number,
                 window: Window::empty(),
+                width: Width::told(wide),
                 ke,
                 km,
             },
@@ -201,10 +208,12 @@ impl Receiver {
 
     // Opens a record, and hands the link back: its window moved where the record was accepted.
     pub fn open(self, sealed: &[u8], out: &mut [u8]) -> Opening
-        ensures { λ r. ⌜ openSays (r .answer) ≡ openAnswer standard encrypt self (now (sealed .entry)) (length (now (out .entry))) ⌝ }
-        ensures { λ r. ⌜ r .link ≡ openLink standard encrypt self (now (sealed .entry)) (length (now (out .entry))) ⌝ }
-        ensures { λ r. ⌜ now (out .exit) ≡ openOutput standard encrypt self (now (sealed .entry)) (now (out .entry)) ⌝ }
+        ensures { λ r. ⌜ openSays (r .answer)
+            ≡ openAnswer (receiverForm self) encrypt self (now (sealed .entry)) (length (now (out .entry))) ⌝ }
+        ensures { λ r. ⌜ r .link ≡ openLink (receiverForm self) encrypt self (now (sealed .entry)) (length (now (out .entry))) ⌝ }
+        ensures { λ r. ⌜ now (out .exit) ≡ openOutput (receiverForm self) encrypt self (now (sealed .entry)) (now (out .entry)) ⌝ }
     {
-        open_in(Form::standard(), self, sealed, out)
+        let width = self.width;
+        open_in(width.form(), self, sealed, out)
     }
 }

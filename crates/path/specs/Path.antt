@@ -1,10 +1,10 @@
 -- The path through the calls of a sealing, as the code takes it. Assumes nothing.
 use mathlib.Core.Path.{_≡_}
 use mathlib.Core.List.{List}
-use Prim.Native.Nat.{ℕ, _+_, _*_, _≤_, _<_}
+use Prim.Native.Nat.{ℕ, _+_, _*_, _^_, _≤_, _<_}
 use lib.ListN.{length}
 use Rattle.blocks.specs.Bytes.{blockCount}
-use Rattle.links.specs.Record.{standard, greatest, longest}
+use Rattle.links.specs.Record.{sequenceMost, longest}
 use Rattle.links.specs.declared.Sender.{Sender}
 use Rattle.masking.specs.Shares.{Reader}
 use Rattle.masking.specs.Call.{encryption, pairCount}
@@ -17,9 +17,9 @@ use Rattle.calls.specs.Numbered.{callCount, tapeNeed}
 use Rattle.calls.specs.Sealed.{sealingCalls, ctrOut, tagShares, chain}
 use Rattle.inputs.specs.Inputs.{outsSize, outAt}
 
--- sealing m on x with the tape t can be done: a number is left, the message is short enough, the tape long enough, the pair is one
+-- sealing m on x with the tape t can be done: the next number fits, the message is short enough, the tape long enough, the pair is one
 pub record Ready (x : Sender) (m t : List ℕ) (a : Watch) : Type 0 where
-  pub left : x .last < greatest standard
+  pub left : x .last + 1 < 256 ^ sequenceMost
   pub short : length m ≤ longest
   pub long : tapeNeed (length m) ≤ length t
   pub low : 1 ≤ a .pair

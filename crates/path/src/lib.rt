@@ -65,7 +65,7 @@ fn ctr_calls(
     let mut w = start;
     let mut j = 0;
     while j < count {
-        let block = links::counter_block(link.number, (link.last + 1) as u64, j as u32);
+        let block = links::counter_block(link.number, link.last + 1, j as u32);
         let next = step(w, key, only(pack(block)), tape, watch);
         let out = next.out;
         blocks::put_bytes(&unpack_shares(out), outs, 48 * j);

@@ -6,10 +6,10 @@ use lib.Dec.{eqb, ltb}
 use lib.ListN.{length}
 use Rattle.blocks.specs.Bytes.{part}
 use Rattle.answers.specs.Answer.{Answer, done, refused, Cause, _when_, first, output}
-use Rattle.links.specs.Record.{longest, recordSize}
+use Rattle.links.specs.Record.{longest, recordSize, greatest}
 use Rattle.links.specs.declared.Form.{Form}
 use Rattle.plain.specs.declared.PlainAnswer.{PlainAnswer}
-use Rattle.plain.specs.declared.PlainAnswer.the-variants.{Sealed, BadKeys, ZeroSequence, LongMessage, ShortOutput}
+use Rattle.plain.specs.declared.PlainAnswer.the-variants.{Sealed, BadKeys, BadSequence, LongMessage, ShortOutput}
 use Rattle.plain.specs.Plain.{plainRecord}
 
 -- the bytes of key material: KE, then KM
@@ -19,7 +19,7 @@ plainKeys = 32
 abbrev pub plainSays : PlainAnswer → Answer
 plainSays (Sealed n) = done (n ∷ [])
 plainSays BadKeys = refused 1
-plainSays ZeroSequence = refused 10
+plainSays BadSequence = refused 10
 plainSays LongMessage = refused 2
 plainSays ShortOutput = refused 4
 
@@ -28,6 +28,7 @@ abbrev pub plainCauses : Form → List ℕ → ℕ → List ℕ → ℕ → List
 plainCauses f keys s m o =
     (1 when not (eqb (length keys) plainKeys))
     ∷ (10 when eqb s 0)
+    ∷ (10 when ltb (greatest f) s)
     ∷ (2 when ltb longest (length m))
     ∷ (4 when ltb o (recordSize f (length m)))
     ∷ []

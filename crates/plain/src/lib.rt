@@ -1,12 +1,13 @@
 // Plain sealing: the record of a message, CTR under KE and CMAC under KM.
 use links::Form;
+use links::Width;
 ghost use mathlib.Core.Path.{_≡_};
 ghost use Prim.Native.Nat.{_≤_};
 ghost use lib.ListN.{length};
 ghost use Rattle.blocks.specs.Bytes.{put};
 ghost use Rattle.answers.specs.Answer.{numberOf};
 ghost use Rattle.baksheesh.specs.Baksheesh.{encrypt};
-ghost use Rattle.links.specs.Record.{standard, Proper, longest, recordSize};
+ghost use Rattle.links.specs.Record.{Proper, longest, recordSize, told, formOf};
 ghost use Rattle.plain.specs.Plain.{plainRecord};
 ghost use Rattle.plain.specs.Entry.{plainSays, plainAnswer, plainOutput};
 
@@ -14,7 +15,7 @@ pub enum PlainAnswer {
     // The length written.
     Sealed { len: usize },
     BadKeys,
-    ZeroSequence,
+    BadSequence,
     LongMessage,
     ShortOutput,
 }
@@ -27,7 +28,7 @@ impl PlainAnswer {
         match self {
             PlainAnswer::Sealed { len: _ } => 0,
             PlainAnswer::BadKeys => 1,
-            PlainAnswer::ZeroSequence => 10,
+            PlainAnswer::BadSequence => 10,
             PlainAnswer::LongMessage => 2,
             PlainAnswer::ShortOutput => 4,
         }
@@ -58,29 +59,34 @@ fn put_record(
     blocks::put_bytes(&code[..size], out, end);
 }
 
-// Seals a message into a record of the given form, under keys of 32 bytes: KE, then KM.
-fn seal_in(
-    form: Form,
+// Seals a message, under keys of 32 bytes: KE, then KM. The record is narrow where `wide` is 0.
+pub fn seal(
     keys: &[u8],
     number: u32,
+    wide: u32,
     sequence: u64,
     message: &[u8],
     out: &mut [u8],
 ) -> PlainAnswer
-    requires { ⌜ Proper form ⌝ }
-    ensures { λ r. ⌜ plainSays r ≡ plainAnswer form (now (keys .entry)) sequence (now (message .entry)) (length (now (out .entry))) ⌝ }
+    ensures { λ r. ⌜ plainSays r
+        ≡ plainAnswer (formOf (told wide)) (now (keys .entry)) sequence (now (message .entry)) (length (now (out .entry))) ⌝ }
     ensures { λ r. ⌜ now (out .exit)
-        ≡ plainOutput form encrypt (now (keys .entry)) number sequence (now (message .entry)) (now (out .entry)) ⌝ }
+        ≡ plainOutput (formOf (told wide)) encrypt (now (keys .entry)) number sequence (now (message .entry)) (now (out .entry)) ⌝ }
 {
     if keys.len() != 32 {
         return PlainAnswer::BadKeys;
     }
     if sequence == 0 {
-        return PlainAnswer::ZeroSequence;
+        return PlainAnswer::BadSequence;
+    }
+    let width = Width::told(wide);
+    if width.greatest() < sequence {
+        return PlainAnswer::BadSequence;
     }
     if links::LONGEST < message.len() {
         return PlainAnswer::LongMessage;
     }
+    let form = width.form();
     let len = message.len() + form.added();
     if out.len() < len {
         return PlainAnswer::ShortOutput;
@@ -89,20 +95,4 @@ fn seal_in(
     let km = blocks::block_at(keys, 16);
     put_record(form, ke, km, number, sequence, message, out);
     PlainAnswer::Sealed { len }
-}
-
-// Seals a message, under keys of 32 bytes: KE, then KM.
-pub fn seal(keys: &[u8], number: u32, sequence: u32, message: &[u8], out: &mut [u8]) -> PlainAnswer
-    ensures { λ r. ⌜ plainSays r ≡ plainAnswer standard (now (keys .entry)) sequence (now (message .entry)) (length (now (out .entry))) ⌝ }
-    ensures { λ r. ⌜ now (out .exit)
-        ≡ plainOutput standard encrypt (now (keys .entry)) number sequence (now (message .entry)) (now (out .entry)) ⌝ }
-{
-    seal_in(
-        Form::standard(),
-        keys,
-        number,
-        sequence as u64,
-        message,
-        out,
-    )
 }

@@ -63,7 +63,7 @@ fn turns(keys: &[u8], message: &[u8], tape: &[u8])
 {
     let mut out = [0u8; 280];
     let fresh = turn(Sender::fresh(), message, tape, &mut out);
-    let keyed = fresh.key(0x01020304, keys);
+    let keyed = fresh.key(0x01020304, 0, keys);
     let mut link = keyed.link;
     for i in 0..12 {
         let n = asked(i);

@@ -7,7 +7,7 @@ ghost use Rattle.baksheesh.specs.Baksheesh.{encrypt, decrypt};
 ghost use Rattle.engines.specs.Block.{blockAnswer, blockOutput};
 ghost use Rattle.body.specs.Mark.{markWith};
 ghost use Rattle.body.specs.Entry.{valuesAnswer, valuesOutput, writeAnswer, writeOutput};
-ghost use Rattle.links.specs.Record.{standard};
+ghost use Rattle.links.specs.Record.{told, formOf};
 ghost use Rattle.plain.specs.Entry.{plainAnswer, plainOutput};
 ghost use Rattle.calls.specs.Entry.{reportAnswer, reportOutput};
 ghost use Rattle.sending.specs.Stored.{senderIn};
@@ -50,13 +50,13 @@ pub extern "C" fn rasppuce_decrypt_packed(key: &[u8], input: &[u8], output: &mut
 
 // ---- the calls on a sending link
 
-// Keys a sending link: three shares of KE, then three of KM.
+// Keys a sending link, narrow where it is told 0: three shares of KE, then three of KM.
 #[no_mangle]
-pub extern "C" fn rasppuce_key_sender(link: &mut [u8], number: u32, keys: &[u8]) -> u32
+pub extern "C" fn rasppuce_key_sender(link: &mut [u8], number: u32, wide: u32, keys: &[u8]) -> u32
     ensures { λ r. ⌜ r ≡ numberOf (senderKeying (now (link .entry)) (now (keys .entry))) ⌝ }
-    ensures { λ r. ⌜ now (link .exit) ≡ keyedSender (now (link .entry)) number (now (keys .entry)) ⌝ }
+    ensures { λ r. ⌜ now (link .exit) ≡ keyedSender (now (link .entry)) number wide (now (keys .entry)) ⌝ }
 {
-    sending::key(link, number, keys)
+    sending::key(link, number, wide, keys)
 }
 
 // Seals a message on shares, with the masks of the tape.
@@ -102,33 +102,34 @@ pub extern "C" fn rasppuce_report(
     sending::report(link, message, tape, call, round, lane, out)
 }
 
-// Seals a message plainly: KE, then KM.
+// Seals a message plainly, into a narrow record where it is told 0: KE, then KM.
 #[no_mangle]
 pub extern "C" fn rasppuce_seal_plain(
     keys: &[u8],
     number: u32,
-    sequence: u32,
+    wide: u32,
+    sequence: u64,
     message: &[u8],
     out: &mut [u8],
 ) -> u32
     ensures { λ r. ⌜ r
-        ≡ numberOf (plainAnswer standard (now (keys .entry)) sequence (now (message .entry)) (length (now (out .entry)))) ⌝ }
+        ≡ numberOf (plainAnswer (formOf (told wide)) (now (keys .entry)) sequence (now (message .entry)) (length (now (out .entry)))) ⌝ }
     ensures { λ r. ⌜ now (out .exit)
-        ≡ plainOutput standard encrypt (now (keys .entry)) number sequence (now (message .entry)) (now (out .entry)) ⌝ }
+        ≡ plainOutput (formOf (told wide)) encrypt (now (keys .entry)) number sequence (now (message .entry)) (now (out .entry)) ⌝ }
 {
-    let answer = plain::seal(keys, number, sequence, message, out);
+    let answer = plain::seal(keys, number, wide, sequence, message, out);
     answer.number()
 }
 
 // ---- the calls on a receiving link
 
-// Keys a receiving link: KE, then KM.
+// Keys a receiving link, narrow where it is told 0: KE, then KM.
 #[no_mangle]
-pub extern "C" fn rasppuce_key_receiver(link: &mut [u8], number: u32, keys: &[u8]) -> u32
+pub extern "C" fn rasppuce_key_receiver(link: &mut [u8], number: u32, wide: u32, keys: &[u8]) -> u32
     ensures { λ r. ⌜ r ≡ numberOf (receiverKeying (now (link .entry)) (now (keys .entry))) ⌝ }
-    ensures { λ r. ⌜ now (link .exit) ≡ keyedReceiver (now (link .entry)) number (now (keys .entry)) ⌝ }
+    ensures { λ r. ⌜ now (link .exit) ≡ keyedReceiver (now (link .entry)) number wide (now (keys .entry)) ⌝ }
 {
-    receiving::key(link, number, keys)
+    receiving::key(link, number, wide, keys)
 }
 
 // Opens a record.

@@ -1,47 +1,51 @@
 -- What opening on a stored link returns and leaves. Assumes nothing.
-use Rattle.prelude.proofs.{_≡_, sym, ap, _∙_, Bool, true, false, cond, List, [], _∷_, ℕ, arith, T, eqb, eqb→eq, length}
+use Rattle.prelude.proofs.{_≡_, refl, sym, ap, _∙_, Bool, true, false, cond, List, [], _∷_, ℕ, arith, length}
 use Rattle.answers.specs.Answer.{Answer, done, numberOf, Accepts}
 use Rattle.answers.proofs.First.{accepts-done, not-accepts, if-done, if-refused}
 use Rattle.baksheesh.specs.Baksheesh.{encrypt}
-use Rattle.links.specs.Record.{standard, sequenceIn}
+use Rattle.links.specs.Record.{sequenceIn}
+use Rattle.layout.specs.Layout.{sound}
+use Rattle.layout.proofs.LinkBytes.{sound-size}
 use Rattle.opening.specs.Open.{messageSize, openCauses, openAnswer, accepting, openLink, openOutput}
-use Rattle.opening.specs.{Receivers.freshReceiver, declared.Receiver.Receiver}
-use Rattle.receiving.specs.Stored.{receiverSize, receiverIn, receiverBytes}
+use Rattle.opening.specs.{Receivers.freshReceiver, Receivers.receiverForm, declared.Receiver.Receiver}
+use Rattle.receiving.specs.Stored.{widthAt, receiverSize, receiverIn, receiverBytes}
 use Rattle.receiving.specs.Calls.{openedAnswer, openedLink, openedOutput}
 
-keyed-in : (b : Bool) (x : Receiver) (r : List ℕ) (o : ℕ) → Accepts (openAnswer standard encrypt (cond b x freshReceiver) r o) → T b
+keyed-in : (b : Bool) (x : Receiver) (r : List ℕ) (o : ℕ) → let y = cond b x freshReceiver in
+    Accepts (openAnswer (receiverForm y) encrypt y r o) → b ≡ true
 unfolding openAnswer
-keyed-in true x r o e = tt
+keyed-in true x r o e = refl
 keyed-in false x r o e = absurd (omega arith)
 
 -- the bytes l say the link x; on it opening handed back the answer a, the link y and the output p, and n is the answer's number
 module _ (l r o : List ℕ) {x : Receiver} (ex : x ≡ receiverIn l) {y : Receiver} {a : Answer} {p : List ℕ}
-    (e : (a ≡ openAnswer standard encrypt x r (length o)) ×
-    ((y ≡ openLink standard encrypt x r (length o)) × (p ≡ openOutput standard encrypt x r o))) {n : ℕ} (en : n ≡ numberOf a) where
+    (e : (a ≡ openAnswer (receiverForm x) encrypt x r (length o)) ×
+    ((y ≡ openLink (receiverForm x) encrypt x r (length o)) × (p ≡ openOutput (receiverForm x) encrypt x r o)))
+    {n : ℕ} (en : n ≡ numberOf a) where
   abbrev answer : Answer
   answer = openedAnswer l r (length o)
 
   told : n ≡ numberOf answer
-  told = en ∙ ap numberOf (e .0 ∙ ap (λ (z : Receiver). openAnswer standard encrypt z r (length o)) ex)
+  told = en ∙ ap numberOf (e .0 ∙ ap (λ (z : Receiver). openAnswer (receiverForm z) encrypt z r (length o)) ex)
 
   -- the number n is returned, and the link's bytes are l′ at the end
   abbrev Opens : List ℕ → Type 0
   Opens l′ = (n ≡ numberOf answer) × ((l′ ≡ openedLink l r (length o)) × (p ≡ openedOutput l r o))
 
   written : p ≡ openedOutput l r o
-  written = e .1 .1 ∙ ap (λ (z : Receiver). openOutput standard encrypt z r o) ex
+  written = e .1 .1 ∙ ap (λ (z : Receiver). openOutput (receiverForm z) encrypt z r o) ex
 
   -- a link that was opened on is keyed, and so of its size
   pub link-size : n ≡ 0 → length l ≡ receiverSize
-  link-size z = eqb→eq (length l) receiverSize (keyed-in (eqb (length l) receiverSize) _ r (length o) (sym told ∙ z))
+  link-size z = sound-size receiverSize widthAt l (keyed-in (sound receiverSize widthAt l) _ r (length o) (sym told ∙ z))
 
   pub opened : n ≡ 0 → {l′ : List ℕ} → l′ ≡ receiverBytes y → Opens l′
   unfolding openAnswer
   opened z el =
-      let d : answer ≡ done (messageSize standard r ∷ []) = accepts-done (openCauses standard encrypt (receiverIn l) r (length o)) _ tt
-      (sym told ∙ z) in
-      let link = e .1 .0 ∙ ap (λ (z : Receiver). openLink standard encrypt z r (length o)) ex
-      ∙ sym (if-done d (accepting (receiverIn l) (sequenceIn standard r)) (receiverIn l)) in
+      let f = receiverForm (receiverIn l) in
+      let d : answer ≡ done (messageSize f r ∷ []) = accepts-done (openCauses f encrypt (receiverIn l) r (length o)) _ tt (sym told ∙ z) in
+      let link = e .1 .0 ∙ ap (λ (z : Receiver). openLink (receiverForm z) encrypt z r (length o)) ex
+      ∙ sym (if-done d (accepting (receiverIn l) (sequenceIn f r)) (receiverIn l)) in
       (told, (el ∙ ap receiverBytes link ∙ if-done d _ l, written))
 
   pub not-opened : (n ≡ 0 → ⊥) → Opens l
@@ -49,7 +53,7 @@ module _ (l r o : List ℕ) {x : Receiver} (ex : x ≡ receiverIn l) {y : Receiv
     told,
     (
       if-refused (not-accepts answer (λ d. z (told ∙ d)))
-          (receiverBytes (accepting (receiverIn l) (sequenceIn standard r))) l,
+          (receiverBytes (accepting (receiverIn l) (sequenceIn (receiverForm (receiverIn l)) r))) l,
       written,
     ),
   )

@@ -1,57 +1,68 @@
--- A receiving link's bytes say that link, bytes that begin with 0 or 1 are those of the link that they say, and what bytes say can be
--- stored. Assumes nothing.
-use Rattle.prelude.proofs.{_≡_, refl, sym, ap, _∙_, subst, List, ℕ, _+_, _^_, _≤_, _<_, arith, eqb, length, drop, getD}
-use Rattle.prelude.proofs.{length-drop, length-replicate, take-all, eqb-true, eq-eqb, ne-eqb}
+-- A receiving link's bytes say that link, bytes whose flag and width are 0 or 1 are those of the link that they say, and what bytes say
+-- can be stored. Assumes nothing.
+use Rattle.prelude.proofs.{_≡_, refl, sym, ap, ap₂, _∙_, true, false, List, [], _∷_, _++_, ℕ, _+_, _≤_, arith}
+use Rattle.prelude.proofs.{length, take, drop, getD, length-append, length-replicate, take-at, drop-drop, take-append-drop, getD-drop}
+use Rattle.prelude.proofs.{getD-append-add}
 use Rattle.blocks.specs.Bytes.{Bytes, Block, bigEndian, value, part}
 use Rattle.blocks.proofs.{Xor.bytes-replicate, Parts.part-length, Parts.part-bytes}
 use Rattle.blocks.proofs.Numbers.{part-lt, bigEndian-length, bigEndian-says, bigEndian-part}
 use Rattle.answers.proofs.First.{either}
-use Rattle.links.specs.Record.{numberSize}
-use Rattle.layout.specs.Layout.{lastSize, numberAt, lastAt, keysAt, tailIn}
-use Rattle.layout.proofs.LinkBytes.{bytes-say, bytes-said}
-use Rattle.opening.specs.{Receivers.receiverKeys, Receivers.freshReceiver, declared.Receiver.Receiver}
-use Rattle.receiving.specs.Stored.{wordSize, receiverSize, receiverAt, receiverIn, receiverBytes, Storable}
+use Rattle.links.specs.{Record.numberSize, Record.told, declared.Width.Width}
+use Rattle.layout.specs.Layout.{lastSize, numberAt, lastAt, keysAt, widthByte, sound}
+use Rattle.layout.proofs.LinkBytes.{bytes-say, bytes-said, width-read, width-byte, width-written, last-byte, sound-size, is-sound}
+use Rattle.opening.specs.{Receivers.freshReceiver, declared.Receiver.Receiver}
+use Rattle.receiving.specs.Stored.{wordSize, wordAt, widthAt, receiverSize, receiverAt, receiverIn, tailOf, receiverBytes}
+use Rattle.receiving.specs.Stored.{Storable}
 
 -- ---- read
 
-pub receiver-in : (b : List ℕ) (x : Receiver) → length b ≡ receiverSize → x ≡ receiverAt b → x ≡ receiverIn b
-receiver-in b x h e = e ∙ simp (eq-eqb (length b) receiverSize h)
+pub receiver-in : (b : List ℕ) (x : Receiver) → sound receiverSize widthAt b ≡ true → x ≡ receiverAt b → x ≡ receiverIn b
+receiver-in b x h e = e ∙ simp h
 
-pub no-receiver : (b : List ℕ) → (length b ≡ receiverSize → ⊥) → freshReceiver ≡ receiverIn b
-no-receiver b h = simp (ne-eqb (length b) receiverSize h)
-
--- the window's word is all that stands behind the keys
-pub word-tail : (b : List ℕ) → length b ≡ receiverSize → part (keysAt + receiverKeys) wordSize b ≡ tailIn receiverKeys b
-word-tail b h = take-all wordSize (drop (keysAt + receiverKeys) b) (simp length-drop (omega arith))
+pub no-receiver : (b : List ℕ) → sound receiverSize widthAt b ≡ false → freshReceiver ≡ receiverIn b
+no-receiver b h = simp h
 
 -- ---- stored and read
+
+pub tail-length : (word : ℕ) (w : Width) → length (tailOf word w) ≡ wordSize + 1
+tail-length word w = simp (length-append, bigEndian-length)
 
 pub receiver-said : (x : Receiver) → Storable x → receiverIn (receiverBytes x) ≡ x
 receiver-said x S =
     let F = S .formed in
-    let w : List ℕ = bigEndian wordSize (x .window .accepted) in
+    let b : List ℕ = receiverBytes x in
+    let word : List ℕ = bigEndian wordSize (x .window .accepted) in
+    let last : List ℕ = widthByte (x .width) ∷ [] in
     let l = bigEndian-length wordSize (x .window .accepted) in
-    let s = bytes-say 16 16 (x .keyed) (x .number) (x .window .highest) (x .ke) (x .km) w (F .number) (S .highest) (F .ke .size)
-    (F .km .size) in
-    let size : length (receiverBytes x) ≡ receiverSize = let e = s .size in omega arith in
-    let word = sym (bigEndian-says wordSize (x .window .accepted) (S .word)) ∙ ap value (s .tail) in
-    sym (receiver-in (receiverBytes x) x size
+    let t = tail-length (x .window .accepted) (x .width) in
+    let s = bytes-say 16 16 (x .keyed) (x .number) (x .window .highest) (x .ke) (x .km) (word ++ last) (F .number) (S .highest)
+    (F .ke .size) (F .km .size) in
+    let size : length b ≡ receiverSize = let e = s .size in omega arith in
+    let accepted : x .window .accepted ≡ value (part wordAt wordSize b) =
+    sym (ap (λ (z : List ℕ). value (take wordSize z)) (sym (s .tail)) ∙ ap value (take-at word last wordSize l)
+    ∙ bigEndian-says wordSize (x .window .accepted) (S .word)) in
+    let byte : getD b widthAt 0 ≡ widthByte (x .width) =
+    sym (getD-drop wordAt b wordSize 0) ∙ ap (λ (z : List ℕ). getD z wordSize 0) (sym (s .tail))
+    ∙ ap (λ (k : ℕ). getD (word ++ last) k 0) (omega arith) ∙ getD-append-add word last 0 0 in
+    let w = width-byte (x .width) in
+    sym (receiver-in b x (is-sound receiverSize widthAt b size (omega arith))
     (λ i. record {
       keyed = s .keyed i;
       number = s .number i;
-      window = record { highest = s .last i; accepted = word i };
+      window = record { highest = s .last i; accepted = accepted i };
+      width = (sym (width-read (x .width)) ∙ ap told (sym byte)) i;
       ke = s .ke i;
       km = s .km i;
     }))
 
 -- ---- read and stored
 
-pub receiver-bytes : (b : List ℕ) → Bytes b → length b ≡ receiverSize → getD b 0 0 ≤ 1 → receiverBytes (receiverIn b) ≡ b
-receiver-bytes b h s f =
-    let t = word-tail b s in
-    let l = bigEndian-length wordSize (receiverAt b .window .accepted) in
-    simp (eq-eqb (length b) receiverSize s)
-    (bytes-said 16 16 b h f _ _ _ _ _ _
+pub receiver-bytes : (b : List ℕ) → Bytes b → length b ≡ receiverSize → getD b 0 0 ≤ 1 → getD b widthAt 0 ≤ 1
+    → receiverBytes (receiverIn b) ≡ b
+receiver-bytes b h s f w =
+    let t = tail-length (receiverAt b .window .accepted) (receiverAt b .width) in
+    ap receiverBytes (sym (receiver-in b (receiverAt b) (is-sound receiverSize widthAt b s w) refl))
+    ∙ bytes-said 16 16 b h f _ _ _ _ _ _
     (record {
       size = omega arith;
       keyed = refl;
@@ -60,13 +71,16 @@ receiver-bytes b h s f =
       ke = refl;
       km = refl;
       tail =
-          ap (λ (z : List ℕ). bigEndian wordSize (value z)) (sym t) ∙ bigEndian-part (keysAt + receiverKeys) wordSize b h (omega arith) ∙ t;
-    }))
+          ap₂ (λ (x : List ℕ) (y : ℕ). x ++ (y ∷ [])) (bigEndian-part wordAt wordSize b h (omega arith))
+          (width-written (getD b widthAt 0) w)
+          ∙ ap (λ (z : List ℕ). part wordAt wordSize b ++ z) (last-byte b widthAt (omega arith) ∙ sym (drop-drop wordSize wordAt b))
+          ∙ take-append-drop wordSize (drop wordAt b);
+    })
 
 -- ---- what bytes say can be stored
 
 pub receiver-storable : (b : List ℕ) → Bytes b → Storable (receiverIn b)
-receiver-storable b h = either Storable (eqb (length b) receiverSize) (λ e. said (eqb-true (length b) receiverSize e)) (λ _. fresh)
+receiver-storable b h = either Storable (sound receiverSize widthAt b) (λ e. said (sound-size receiverSize widthAt b e)) (λ _. fresh)
   where
     said : length b ≡ receiverSize → Storable (receiverAt b)
     said l = record {
@@ -76,7 +90,7 @@ receiver-storable b h = either Storable (eqb (length b) receiverSize) (λ e. sai
         km = record { size = part-length (keysAt + 16) 16 b (omega arith); bytes = part-bytes (keysAt + 16) 16 b h };
       };
       highest = part-lt lastAt lastSize b h (omega arith);
-      word = subst (λ (z : List ℕ). value z < 256 ^ wordSize) (word-tail b l) (part-lt (keysAt + receiverKeys) wordSize b h (omega arith));
+      word = part-lt wordAt wordSize b h (omega arith);
     }
 
     zero-block : Block (freshReceiver .ke)

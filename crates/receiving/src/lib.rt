@@ -1,35 +1,49 @@
 // The calls on a receiving link in its bytes: each returns 0 or the refusal's number.
+use links::Width;
 use opening::Receiver;
 use window::Window;
 ghost use mathlib.Core.Path.{_≡_};
 ghost use lib.ListN.{length};
 ghost use Rattle.answers.specs.Answer.{numberOf};
-ghost use Rattle.receiving.specs.Stored.{receiverSize, receiverIn, receiverBytes};
+ghost use Rattle.receiving.specs.Stored.{receiverSize, receiverIn, tailOf, receiverBytes};
 ghost use Rattle.receiving.specs.Calls.{receiverKeying, keyedReceiver, openedAnswer, openedLink, openedOutput};
 
-// Where the window's word begins, its bytes, and those of a link.
+// Where the window's word and the width stand, and the bytes of the word and of a link.
 const WORD_AT: usize = layout::KEYS_AT + 32;
+
+const WIDTH_AT: usize = WORD_AT + WORD;
 
 const WORD: usize = 8;
 
-const SIZE: usize = WORD_AT + WORD;
+const SIZE: usize = WIDTH_AT + 1;
 
 fn load(bytes: &[u8]) -> Receiver
     ensures { λ r. ⌜ r ≡ receiverIn (now (bytes .entry)) ⌝ }
 {
-    if bytes.len() != SIZE {
+    if !layout::sound(bytes, SIZE, WIDTH_AT) {
         return Receiver::fresh();
     }
     Receiver {
         keyed: layout::keyed(bytes),
         number: layout::number(bytes),
         window: Window {
-            highest: layout::last(bytes) as u64,
+            highest: layout::last(bytes),
             accepted: blocks::number_at(bytes, WORD_AT, WORD),
         },
+        width: layout::width(bytes, WIDTH_AT),
         ke: layout::key_block(bytes, 0),
         km: layout::key_block(bytes, 16),
     }
+}
+
+// The tail: the window's word, and the width.
+fn tail_of(word: u64, width: Width) -> [u8; 9]
+    ensures { λ r. ⌜ r ≡ tailOf word width ⌝ }
+{
+    let mut tail = [0u8; 9];
+    blocks::put_number(&mut tail, 0, WORD, word);
+    blocks::put_bytes(&[layout::width_byte(width)], &mut tail, WORD);
+    tail
 }
 
 fn store(x: Receiver, bytes: &mut [u8])
@@ -39,17 +53,17 @@ fn store(x: Receiver, bytes: &mut [u8])
     let ke = x.ke;
     let km = x.km;
     let window = x.window;
-    let mut word = [0u8; 8];
-    blocks::put_number(&mut word, 0, WORD, window.accepted);
-    layout::put_link(x.keyed, x.number, window.highest, &ke, &km, &word, bytes);
+    let width = x.width;
+    let tail = tail_of(window.accepted, width);
+    layout::put_link(x.keyed, x.number, window.highest, &ke, &km, &tail, bytes);
 }
 
-// Keys the link: KE, then KM. Its window is empty.
-pub fn key(link: &mut [u8], number: u32, keys: &[u8]) -> u32
+// Keys the link, narrow where it is told 0: KE, then KM. Its window is empty.
+pub fn key(link: &mut [u8], number: u32, wide: u32, keys: &[u8]) -> u32
     ensures { λ r. ⌜ r ≡ numberOf (receiverKeying (now (link .entry)) (now (keys .entry))) ⌝ }
-    ensures { λ r. ⌜ now (link .exit) ≡ keyedReceiver (now (link .entry)) number (now (keys .entry)) ⌝ }
+    ensures { λ r. ⌜ now (link .exit) ≡ keyedReceiver (now (link .entry)) number wide (now (keys .entry)) ⌝ }
 {
-    layout::key(link, number, keys, 32, &[0; 8])
+    layout::key(link, number, keys, 32, &tail_of(0, Width::told(wide)))
 }
 
 // Opens a record.

@@ -1,7 +1,7 @@
 // The lane report: a lane of the sealing that a link would do next.
-use links::GREATEST;
 use links::LONGEST;
 use links::Sender;
+use links::usable;
 use outgoing::lane_of;
 use path::call_count;
 use path::run;
@@ -61,10 +61,11 @@ pub fn report(
     ensures { λ r. ⌜ now (out .exit)
         ≡ reportOutput link (now (message .entry)) (now (tape .entry)) call round lane (now (out .entry)) ⌝ }
 {
-    if !link.keyed {
+    let width = link.width;
+    if !usable(link.keyed, width, link.last) {
         return ReportAnswer::NotKeyed;
     }
-    if link.last == GREATEST {
+    if link.last == width.greatest() {
         return ReportAnswer::NumbersUsed;
     }
     let n = message.len();

@@ -1,8 +1,7 @@
 // Shared sealing.
-use links::Form;
-use links::GREATEST;
 use links::LONGEST;
 use links::Sender;
+use links::usable;
 use outgoing::put_record;
 use path::run;
 use path::tape_need;
@@ -65,10 +64,11 @@ pub fn seal(link: Sender, message: &[u8], tape: &[u8], out: &mut [u8]) -> Sealin
     ensures { λ r. ⌜ r .shares ≡ sealShares link (now (message .entry)) (now (tape .entry)) (length (now (out .entry))) ⌝ }
     ensures { λ r. ⌜ now (out .exit) ≡ sealOutput link (now (message .entry)) (now (tape .entry)) (now (out .entry)) ⌝ }
 {
-    if !link.keyed {
+    let width = link.width;
+    if !usable(link.keyed, width, link.last) {
         return refused(link, SealAnswer::NotKeyed);
     }
-    if link.last == GREATEST {
+    if link.last == width.greatest() {
         return refused(link, SealAnswer::NumbersUsed);
     }
     let n = message.len();
@@ -79,7 +79,7 @@ pub fn seal(link: Sender, message: &[u8], tape: &[u8], out: &mut [u8]) -> Sealin
     if tape.len() < need {
         return refused(link, SealAnswer::ShortTape);
     }
-    let form = Form::standard();
+    let form = width.form();
     let len = n + form.added();
     if out.len() < len {
         return refused(link, SealAnswer::ShortOutput);
@@ -90,15 +90,7 @@ pub fn seal(link: Sender, message: &[u8], tape: &[u8], out: &mut [u8]) -> Sealin
     let tag = w.out;
     let shares = unpack_shares(tag);
     let sequence = link.last + 1;
-    put_record(
-        form,
-        link.number,
-        sequence as u64,
-        message,
-        &outs,
-        shares,
-        out,
-    );
+    put_record(form, link.number, sequence, message, &outs, shares, out);
     let mut next = link;
     next.last = sequence;
     Sealing {

@@ -1,20 +1,22 @@
 -- What sealing and the report on a link in its bytes return and leave. Assumes nothing.
-use Rattle.prelude.proofs.{_≡_, refl, sym, ap, _∙_, Bool, true, false, cond, List, [], _∷_, _++_, append-nil, ℕ, _≤_, arith, T, ltb, eqb}
-use Rattle.prelude.proofs.{eqb→eq, length, getD, take, drop, take-append-drop, length-take-le, take-length, drop-length, ltb-false, lt-ltb}
+use Rattle.prelude.proofs.{_≡_, refl, sym, ap, _∙_, Bool, true, false, cond, List, [], _∷_, _++_, append-nil, ℕ, _≤_, arith, ltb}
+use Rattle.prelude.proofs.{length, getD, take, drop, take-append-drop, length-take-le, take-length, drop-length, ltb-false, lt-ltb}
 use Rattle.blocks.specs.Bytes.{bigEndian, put}
 use Rattle.answers.specs.Answer.{Answer, done, refused, _when_, first, numberOf, output, valuesOf, NoneOf}
 use Rattle.answers.proofs.First.{done-none, accepts-none, same-number, not-accepts, if-done, if-refused}
-use Rattle.links.specs.{Record.standard, Record.recordSize, Links.freshSender, declared.Sender.Sender}
+use Rattle.links.specs.{Record.recordSize, Links.freshSender, Links.senderForm, declared.Sender.Sender}
+use Rattle.layout.specs.Layout.{sound}
+use Rattle.layout.proofs.LinkBytes.{sound-size}
 use Rattle.masking.specs.Shares.{flat, at}
 use Rattle.calls.specs.Entry.{inputCauses, sealAnswer, advanced, sealLink, sealShares, sealOutput, reportAnswer, reportOutput}
 use Rattle.calls.specs.{Numbered.tapeNeed, Sealed.tagShares, Sealed.sealedRecord, Demand.Accepted}
 use Rattle.calls.proofs.Accepted.{values}
-use Rattle.sending.specs.Stored.{senderSize, senderIn, senderBytes}
+use Rattle.sending.specs.Stored.{widthAt, senderSize, senderIn, senderBytes}
 use Rattle.sending.specs.Calls.{countSize, sharesSize, sealedCauses, sealedAnswer, sealedLink, recordOutput, sharesOutput}
 
-keyed-in : (b : Bool) (x : Sender) (m t : List ℕ) (o : ℕ) → Accepted (cond b x freshSender) m t o → T b
+keyed-in : (b : Bool) (x : Sender) (m t : List ℕ) (o : ℕ) → Accepted (cond b x freshSender) m t o → b ≡ true
 unfolding sealAnswer
-keyed-in true x m t o e = tt
+keyed-in true x m t o e = refl
 keyed-in false x m t o e = absurd (omega arith)
 
 -- sealing is given no room for the record where the second slice is too short; its answer then has the number of the slice's own cause
@@ -30,7 +32,7 @@ room-fits o s = under (ltb s sharesSize)
 
 room-number : (b : Bool) (x : Sender) (m t : List ℕ) (o : ℕ)
     → numberOf (sealAnswer x m t (cond b 0 o))
-    ≡ numberOf (first (inputCauses x m t ((4 when ltb o (recordSize standard (length m))) ∷ (4 when b) ∷ [])) (done []))
+    ≡ numberOf (first (inputCauses x m t ((4 when ltb o (recordSize (senderForm x) (length m))) ∷ (4 when b) ∷ [])) (done []))
 unfolding sealAnswer
 room-number b x m t o = same-number (inputCauses x m t []) _ _ (last b)
   where
@@ -43,11 +45,11 @@ room-number b x m t o = same-number (inputCauses x m t []) _ _ (last b)
     always false = refl
 
     last : (b : Bool)
-        → numberOf (first ((4 when ltb (cond b 0 o) (recordSize standard (length m))) ∷ [])
-        (done (recordSize standard (length m) ∷ tapeNeed (length m) ∷ [])))
-        ≡ numberOf (first ((4 when ltb o (recordSize standard (length m))) ∷ (4 when b) ∷ []) (done []))
-    last true = rw (lt-ltb 0 (recordSize standard (length m)) (omega arith)) (always (ltb o (recordSize standard (length m))))
-    last false = either _ (ltb o (recordSize standard (length m)))
+        → numberOf (first ((4 when ltb (cond b 0 o) (recordSize (senderForm x) (length m))) ∷ [])
+        (done (recordSize (senderForm x) (length m) ∷ tapeNeed (length m) ∷ [])))
+        ≡ numberOf (first ((4 when ltb o (recordSize (senderForm x) (length m))) ∷ (4 when b) ∷ []) (done []))
+    last true = rw (lt-ltb 0 (recordSize (senderForm x) (length m)) (omega arith)) (always (ltb o (recordSize (senderForm x) (length m))))
+    last false = either _ (ltb o (recordSize (senderForm x) (length m)))
 
 -- ---- sealing
 
@@ -114,7 +116,7 @@ module _ (l m t o s : List ℕ) {x : Sender} (ex : x ≡ senderIn l) {k : ℕ} (
     whole = ek ∙ ap (λ (b : Bool). cond b 0 (length o)) long
 
     pub link-size : length l ≡ senderSize
-    link-size = eqb→eq (length l) senderSize (keyed-in (eqb (length l) senderSize) _ m t space A)
+    link-size = sound-size senderSize widthAt l (keyed-in (sound senderSize widthAt l) _ m t space A)
 
     written : p ++ drop k o ≡ put 0 (sealedRecord (senderIn l) m (at t)) o
     written =

@@ -1,39 +1,50 @@
--- A sending link's bytes say that link, bytes that begin with 0 or 1 are those of the link that they say, and what bytes say is formed.
--- Assumes nothing.
-use Rattle.prelude.proofs.{_≡_, refl, sym, ap, _∙_, List, [], ℕ, _+_, _^_, _≤_, _<_, arith, eqb, length, drop}
-use Rattle.prelude.proofs.{getD, length-replicate, drop-length, eqb-true, eq-eqb, ne-eqb}
+-- A sending link's bytes say that link, bytes whose flag and width are 0 or 1 are those of the link that they say, and what bytes say is
+-- formed. Assumes nothing.
+use Rattle.prelude.proofs.{_≡_, refl, sym, ap, _∙_, true, false, List, [], _∷_, ℕ, _+_, _^_, _≤_, _<_, arith, length}
+use Rattle.prelude.proofs.{getD, length-replicate, getD-drop}
 use Rattle.blocks.specs.Bytes.{Bytes}
 use Rattle.blocks.proofs.{Xor.bytes-replicate, Parts.part-length, Parts.part-bytes, Numbers.part-lt}
 use Rattle.answers.proofs.First.{either}
-use Rattle.links.specs.{Record.numberSize, Links.freshSender, declared.Sender.Sender}
-use Rattle.layout.specs.Layout.{lastSize, numberAt, lastAt, keysAt}
-use Rattle.layout.proofs.LinkBytes.{bytes-say, bytes-said}
+use Rattle.links.specs.{Record.numberSize, Record.told, Links.freshSender, declared.Sender.Sender}
+use Rattle.layout.specs.Layout.{lastSize, numberAt, lastAt, keysAt, widthByte, sound}
+use Rattle.layout.proofs.LinkBytes.{bytes-say, bytes-said, width-read, width-byte, width-written, last-byte, sound-size, is-sound}
 use Rattle.calls.specs.Demand.{Formed}
-use Rattle.sending.specs.Stored.{senderSize, senderAt, senderIn, senderBytes}
+use Rattle.sending.specs.Stored.{widthAt, senderSize, senderAt, senderIn, senderBytes}
 
 -- ---- read
 
-pub sender-in : (b : List ℕ) (x : Sender) → length b ≡ senderSize → x ≡ senderAt b → x ≡ senderIn b
-sender-in b x h e = e ∙ simp (eq-eqb (length b) senderSize h)
+pub sender-in : (b : List ℕ) (x : Sender) → sound senderSize widthAt b ≡ true → x ≡ senderAt b → x ≡ senderIn b
+sender-in b x h e = e ∙ simp h
 
-pub no-sender : (b : List ℕ) → (length b ≡ senderSize → ⊥) → freshSender ≡ senderIn b
-no-sender b h = simp (ne-eqb (length b) senderSize h)
+pub no-sender : (b : List ℕ) → sound senderSize widthAt b ≡ false → freshSender ≡ senderIn b
+no-sender b h = simp h
 
 -- ---- stored and read
 
 pub sender-said : (x : Sender) → x .number < 256 ^ numberSize → x .last < 256 ^ lastSize → length (x .ke) ≡ 48 → length (x .km) ≡ 48
     → senderIn (senderBytes x) ≡ x
 sender-said x hn hl he hm =
-    let S = bytes-say 48 48 (x .keyed) (x .number) (x .last) (x .ke) (x .km) [] hn hl he hm in
-    sym (sender-in (senderBytes x) x (S .size)
-    (λ i. record { keyed = S .keyed i; number = S .number i; last = S .last i; ke = S .ke i; km = S .km i }))
+    let b : List ℕ = senderBytes x in
+    let s = bytes-say 48 48 (x .keyed) (x .number) (x .last) (x .ke) (x .km) (widthByte (x .width) ∷ []) hn hl he hm in
+    let byte : getD b widthAt 0 ≡ widthByte (x .width) =
+    sym (getD-drop widthAt b 0 0) ∙ ap (λ (z : List ℕ). getD z 0 0) (sym (s .tail)) in
+    let w = width-byte (x .width) in
+    sym (sender-in b x (is-sound senderSize widthAt b (s .size) (omega arith))
+    (λ i. record {
+      keyed = s .keyed i;
+      number = s .number i;
+      last = s .last i;
+      width = (sym (width-read (x .width)) ∙ ap told (sym byte)) i;
+      ke = s .ke i;
+      km = s .km i;
+    }))
 
 -- ---- read and stored
 
-pub sender-bytes : (b : List ℕ) → Bytes b → length b ≡ senderSize → getD b 0 0 ≤ 1 → senderBytes (senderIn b) ≡ b
-sender-bytes b h s f =
-    ap senderBytes (sym (sender-in b (senderAt b) s refl))
-    ∙ bytes-said 48 48 b h f _ _ _ _ _ []
+pub sender-bytes : (b : List ℕ) → Bytes b → length b ≡ senderSize → getD b 0 0 ≤ 1 → getD b widthAt 0 ≤ 1 → senderBytes (senderIn b) ≡ b
+sender-bytes b h s f w =
+    ap senderBytes (sym (sender-in b (senderAt b) (is-sound senderSize widthAt b s w) refl))
+    ∙ bytes-said 48 48 b h f _ _ _ _ _ _
     (record {
       size = s;
       keyed = refl;
@@ -41,13 +52,13 @@ sender-bytes b h s f =
       last = refl;
       ke = refl;
       km = refl;
-      tail = sym (ap (λ (i : ℕ). drop i b) (sym s) ∙ drop-length b);
+      tail = ap (λ (y : ℕ). y ∷ []) (width-written (getD b widthAt 0) w) ∙ last-byte b widthAt s;
     })
 
 -- ---- what bytes say is formed
 
 pub sender-formed : (b : List ℕ) → Bytes b → Formed (senderIn b)
-sender-formed b h = either Formed (eqb (length b) senderSize) (λ e. said (eqb-true (length b) senderSize e)) (λ _. fresh)
+sender-formed b h = either Formed (sound senderSize widthAt b) (λ e. said (sound-size senderSize widthAt b e)) (λ _. fresh)
   where
     said : length b ≡ senderSize → Formed (senderAt b)
     said l = record {

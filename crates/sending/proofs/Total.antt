@@ -11,9 +11,9 @@ use Rattle.sending.proofs.Accepted.{call-accepted, accepted-call}
 
 -- ---- keying
 
-pub keying-unchanged : (link : List ℕ) (number : ℕ) (keys : List ℕ) (r : ℕ) → senderKeying link keys ≡ refused r
-    → keyedSender link number keys ≡ link
-keying-unchanged link number keys r e = sym (if-refused e _ link)
+pub keying-unchanged : (link : List ℕ) (number wide : ℕ) (keys : List ℕ) (r : ℕ) → senderKeying link keys ≡ refused r
+    → keyedSender link number wide keys ≡ link
+keying-unchanged link number wide keys r e = sym (if-refused e _ link)
 
 -- ---- sealing
 

@@ -5,8 +5,8 @@ use lib.Dec.{ltb}
 use lib.ListN.{length}
 use Rattle.blocks.specs.Bytes.{bigEndian}
 use Rattle.answers.specs.Answer.{Answer, done, Cause, _when_, first, ifDone, output}
-use Rattle.links.specs.Record.{standard, recordSize}
-use Rattle.links.specs.Links.{senderKeys, senderOf}
+use Rattle.links.specs.Record.{recordSize, told}
+use Rattle.links.specs.Links.{senderKeys, senderOf, senderForm}
 use Rattle.layout.specs.Keying.{keyingAnswer}
 use Rattle.masking.specs.Shares.{flat, at}
 use Rattle.calls.specs.Numbered.{tapeNeed}
@@ -19,8 +19,8 @@ use Rattle.sending.specs.Stored.{senderSize, senderIn, senderBytes}
 abbrev pub senderKeying : List ℕ → List ℕ → Answer
 senderKeying = keyingAnswer senderSize senderKeys
 
-abbrev pub keyedSender : List ℕ → ℕ → List ℕ → List ℕ
-keyedSender link number keys = ifDone (senderKeying link keys) (senderBytes (senderOf number keys)) link
+abbrev pub keyedSender : List ℕ → ℕ → ℕ → List ℕ → List ℕ
+keyedSender link number wide keys = ifDone (senderKeying link keys) (senderBytes (senderOf number (told wide) keys)) link
 
 -- ---- sealing, with slices of o bytes for the record and of s for the tag's shares and the tape count
 
@@ -34,7 +34,7 @@ sharesSize = 48 + countSize
 -- the causes of sealing, and a second slice that is too short
 abbrev pub sealedCauses : List ℕ → List ℕ → List ℕ → ℕ → ℕ → List Cause
 sealedCauses link m t o s =
-    inputCauses (senderIn link) m t ((4 when ltb o (recordSize standard (length m))) ∷ (4 when ltb s sharesSize) ∷ [])
+    inputCauses (senderIn link) m t ((4 when ltb o (recordSize (senderForm (senderIn link)) (length m))) ∷ (4 when ltb s sharesSize) ∷ [])
 
 unfoldable pub sealedAnswer : List ℕ → List ℕ → List ℕ → ℕ → ℕ → Answer
 sealedAnswer link m t o s = first (sealedCauses link m t o s) (done [])

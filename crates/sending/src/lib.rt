@@ -1,5 +1,6 @@
 // The calls on a sending link in its bytes: each returns 0 or the refusal's number.
 use links::Sender;
+use links::Width;
 use sealing::SealAnswer;
 ghost use mathlib.Core.Path.{_≡_};
 ghost use mathlib.Core.Bool.{cond};
@@ -15,8 +16,10 @@ ghost use Rattle.sending.specs.Stored.{senderSize, senderIn, senderBytes
 ghost use Rattle.sending.specs.Calls.{senderKeying, keyedSender};
 ghost use Rattle.sending.specs.Calls.{countSize, sharesSize, sealedAnswer, sealedLink, recordOutput, sharesOutput};
 
-// The bytes of a link, with no tail.
-const SIZE: usize = layout::KEYS_AT + 96;
+// Where the width stands, and the bytes of a link.
+const WIDTH_AT: usize = layout::KEYS_AT + 96;
+
+const SIZE: usize = WIDTH_AT + 1;
 
 // The bytes of the tag's shares, and of the tape count behind them.
 const SHARES: usize = 48;
@@ -30,13 +33,14 @@ const SHARES_AND_COUNT: usize = SHARES + COUNT;
 fn load(bytes: &[u8]) -> Sender
     ensures { λ r. ⌜ r ≡ senderIn (now (bytes .entry)) ⌝ }
 {
-    if bytes.len() != SIZE {
+    if !layout::sound(bytes, SIZE, WIDTH_AT) {
         return Sender::fresh();
     }
     Sender {
         keyed: layout::keyed(bytes),
         number: layout::number(bytes),
         last: layout::last(bytes),
+        width: layout::width(bytes, WIDTH_AT),
         ke: layout::key_blocks(bytes, 0),
         km: layout::key_blocks(bytes, 48),
     }
@@ -48,15 +52,18 @@ fn store(x: Sender, bytes: &mut [u8])
 {
     let ke = x.ke;
     let km = x.km;
-    layout::put_link(x.keyed, x.number, x.last as u64, &ke, &km, b"", bytes);
+    let width = x.width;
+    let tail = [layout::width_byte(width)];
+    layout::put_link(x.keyed, x.number, x.last, &ke, &km, &tail, bytes);
 }
 
-// Keys the link: three shares of KE, then three of KM.
-pub fn key(link: &mut [u8], number: u32, keys: &[u8]) -> u32
+// Keys the link, narrow where it is told 0: three shares of KE, then three of KM.
+pub fn key(link: &mut [u8], number: u32, wide: u32, keys: &[u8]) -> u32
     ensures { λ r. ⌜ r ≡ numberOf (senderKeying (now (link .entry)) (now (keys .entry))) ⌝ }
-    ensures { λ r. ⌜ now (link .exit) ≡ keyedSender (now (link .entry)) number (now (keys .entry)) ⌝ }
+    ensures { λ r. ⌜ now (link .exit) ≡ keyedSender (now (link .entry)) number wide (now (keys .entry)) ⌝ }
 {
-    layout::key(link, number, keys, 96, b"")
+    let tail = [layout::width_byte(Width::told(wide))];
+    layout::key(link, number, keys, 96, &tail)
 }
 
 // ---- sealing

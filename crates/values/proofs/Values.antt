@@ -9,7 +9,10 @@ use Rattle.modes.specs.Cmac.{doubled, chain, lastBlock, subkey₁, cmac}
 use Rattle.links.specs.Record.{counterBlock, recordOf}
 use Rattle.masking.specs.Sbox.{sboxShare}
 use Rattle.window.specs.Window.{shifted}
+use Rattle.plain.specs.Entry.{plainAnswer}
 use Rattle.opening.specs.Open.{openAnswer}
+use Rattle.layout.specs.Keying.{keyingAnswer}
+use Rattle.sending.specs.Calls.{sealedAnswer}
 use Rattle.values.specs.Values.{Row, _is_, rows, Hold}
 
 -- one test over all rows
@@ -24,5 +27,5 @@ hold ((a is b) ∷ rs) e = let both = both-true (sameBytes a b) (same rs) e in (
 
 pub values-hold : Hold rows
 unfolding same bit blockOf bitAt cells rearranged eachCell constant doubled chain lastBlock subkey₁ cmac sboxShare counterBlock recordOf
-    bigEndian value tab _⊕_ zeros shifted openAnswer
+    bigEndian value tab _⊕_ zeros shifted openAnswer plainAnswer keyingAnswer sealedAnswer
 values-hold = hold rows refl

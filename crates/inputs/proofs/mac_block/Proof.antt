@@ -16,5 +16,5 @@ returns-2 c =
     mac-next (a .link) (a .message .now) (a .outs .now) (a .j) _ (search needs) (c .text-block .ensures)
 
 pub mac-block-spec : {M : Type 1} → fn.Statement.statement M
-mac-block-spec = fn.Tie.close (fn.Tie.spec (λ c. search needs) (λ c. search needs) (λ c κs. search needs) (λ c κs. search needs)
+mac-block-spec = fn.Tie.close (fn.Tie.spec (λ c. search needs) (λ c κs. search needs) (λ c κs. search needs)
     (λ c κs. search needs) returns (λ c. search needs) (λ c κs. search needs) returns-2)

@@ -70,7 +70,7 @@ returns c =
 pub ctr-calls-spec : {M : Type 1} → fn.Statement.statement M
 ctr-calls-spec = fn.Tie.close (fn.Tie.spec Inv-loop μ-loop (λ c. search needs)
     (λ c. let p = c .before .before .before .pre in (omega arith, p .1 .1 .0, outs-none _ _ _ _ (p .1 .1 .1)))
-    (λ c. omega (arith, c .before .before .before .before .before .before .pre .0 .left)) (λ c. search needs)
+    (λ c. omega (arith, c .before .before .before .before .before .before .pre .0 .left))
     (λ c. omega (arith, few (c .before .before))) (λ c κs. search needs) (λ c κs. search needs) (λ c κs. search needs) step-requires
     (λ c κs. search needs) (λ c. search needs)
     (λ c. omega (arith, few (c .before .before .before .before .before .before .before .before .before .before))) put-bytes-requires

@@ -1,35 +1,64 @@
 -- `report` meets its contract: each refusal in its place, and the lane. Assumes nothing.
-use Rattle.prelude.proofs.{_≡_, refl, ap, _∙_, List, [], ℕ, arith, length, needs}
+use Rattle.prelude.proofs.{_≡_, refl, sym, ap, _∙_, Bool, not, List, [], ℕ, arith, length, take, needs}
 use Rattle.blocks.specs.Bytes.{put, blockCount}
+use Rattle.answers.specs.Answer.{NoneOf}
 use Rattle.answers.proofs.First.{leaves-one, tests}
+use Rattle.links.specs.{Record.usable, Links.senderForm}
 use Rattle.masking.specs.Call.{pairCount}
 use Rattle.runs.specs.Lanes.{within, Within, TellsNumber}
 use Rattle.runs.proofs.Lanes.{inside, outside}
-use Rattle.calls.specs.{Numbered.callCount, Entry.reportAnswer}
-use Rattle.calls.proofs.Accepted.{Sealable, none-sealable, report-tells, reported}
+use Rattle.calls.specs.{Numbered.callCount, Entry.inputCauses, Entry.reportAnswer}
+use Rattle.calls.proofs.Accepted.{Sealable, none-sealable, next-fits, report-tells, reported}
 use Rattle.reporting.proofs.{Answers.report-refused, Shown.lane-shown}
 use Rattle.reporting.proofs.report as fn
 
+-- back to the start: from the first test, and from behind the second and the fourth
+abbrev start₀ : fn.Tie.After-usable → fn.Tie.Start
+start₀ c = c .before .before .before .before
+
+abbrev start₂ : fn.Tie.Else2 → fn.Tie.Start
+start₂ c = start₀ (c .before .before .before .before)
+
+abbrev start : fn.Tie.Else4 → fn.Tie.Start
+start c = start₂ (c .before .before .before)
+
 -- ---- the inputs
 
+-- whether the link counts as keyed, as was found
+keyed : (c : fn.Tie.After-usable) {b : Bool} → not (c .usable .result) ≡ b
+    → let x = start₀ c .args .link in not (usable (senderForm x) (x .keyed) (x .last)) ≡ b
+keyed c e = sym (ap not (c .usable .ensures)) ∙ e
+
+-- it does, and has a number left
+left : (c : fn.Tie.Else2) → let a = start₂ c .args in NoneOf (take 2 (inputCauses (a .link) (a .message .now) (a .tape .now) []))
+left c =
+    let most = c .before .before in
+    let e = most .greatest .ensures in
+    (keyed (most .before .before) (most .before .if1 .left), omega (arith, tests))
+
+returns-2 : fn.Tie.Need-returns-2
+returns-2 c =
+    let most = c .before .before in
+    let e = most .greatest .ensures in
+    leaves-one (report-refused _ _ _ _ _ _ _ 1 (keyed (most .before .before) (most .before .if1 .left), tt) (omega (arith, tests))) refl _ _
+    refl
+
 returns-3 : fn.Tie.Need-returns-3
-returns-3 c = leaves-one (report-refused _ _ _ _ _ _ _ 2 (search needs, omega (arith, tests)) (omega (arith, tests))) refl _ _ refl
+returns-3 c = leaves-one (report-refused _ _ _ _ _ _ _ 2 (left (c .before)) (omega (arith, tests))) refl _ _ refl
 
 returns-4 : fn.Tie.Need-returns-4
 returns-4 c =
     let need = c .before .tape-need .ensures in
-    leaves-one (report-refused _ _ _ _ _ _ _ 3 (search needs, omega (arith, tests)) (omega (arith, tests))) refl _ _ refl
+    let l = left (c .before .before .before) in
+    leaves-one (report-refused _ _ _ _ _ _ _ 3 (l .0, (l .1 .0, omega (arith, tests))) (omega (arith, tests))) refl _ _ refl
 
--- from behind the tape's test to the start
-abbrev start : fn.Tie.Else4 → fn.Tie.Start
-start c = c .before .before .before .before .before .before .before .before .before .before
-
--- behind it sealing could go on, so that the answer tells the number that is wrong
+-- sealing could go on, so that the answer tells the number that is wrong
 sealable : (c : fn.Tie.Else4) → let a = start c .args in Sealable (a .link) (a .message .now) (a .tape .now)
 sealable c =
     let need = c .before .tape-need .ensures in
+    let l = left (c .before .before .before) in
     let a = start c .args in
-    none-sealable (a .link) (a .message .now) (a .tape .now) [] (search needs, omega (arith, tests))
+    none-sealable (a .link) (a .message .now) (a .tape .now) [] (l .0, (l .1 .0, omega (arith, tests)))
 
 -- ---- the numbers of the lane
 
@@ -90,9 +119,9 @@ returns-8 c =
 run-requires : fn.Tie.Need-run-requires
 run-requires c κs =
     let d = c .before .before in
-    let need = tape₇ d .before .tape-need .ensures in
+    let S = sealable (tape₇ d) in
     let r = round (d .before .before) in
-    (record { left = omega arith; short = omega arith; long = omega arith; low = r .0; high = r .1 }, refl)
+    (record { left = next-fits _ _ _ S; short = S .small; long = S .long; low = r .0; high = r .1 }, refl)
 
 lane-of-requires : fn.Tie.Need-lane-of-requires
 lane-of-requires c κs = let l = lane (c .before .before .before .before .before) .1 in omega arith
@@ -115,8 +144,8 @@ returns-9 c =
     (shown .lane-of .ensures ∙ lane-shown _ _ _ _ _ _ (run .run .ensures) (a .lane) (k .0) (k .1)))
 
 pub report-spec : {M : Type 1} → fn.Statement.statement M
-report-spec = fn.Tie.close (fn.Tie.spec (λ c. leaves-one (report-refused _ _ _ _ _ _ _ 0 tt (search needs)) refl _ _ refl)
-    (λ c. leaves-one (report-refused _ _ _ _ _ _ _ 1 (search needs, tt) (omega (arith, tests))) refl _ _ refl) returns-3
-    (λ c κs. search needs) returns-4 (λ c κs. search needs) (λ c κs. search needs) returns-5 (λ c κs. search needs) returns-6
+report-spec = fn.Tie.close (fn.Tie.spec (λ c κs. search needs)
+    (λ c. leaves-one (report-refused _ _ _ _ _ _ _ 0 tt (keyed (c .before) (c .if1 .taken))) refl _ _ refl) (λ c κs. search needs) returns-2
+    returns-3 (λ c κs. search needs) returns-4 (λ c κs. search needs) (λ c κs. search needs) returns-5 (λ c κs. search needs) returns-6
     (λ c κs. search needs) returns-7 returns-8 (λ c. search needs) run-requires lane-of-requires (λ c. search needs) (λ c κs. search needs)
     (λ c. search needs) returns-9)

@@ -1,17 +1,23 @@
 -- Keying a sender meets its contract. Assumes nothing.
-use Rattle.prelude.proofs.{refl, ap₂, true, List, ℕ, arith, needs}
+use Rattle.prelude.proofs.{refl, true, arith, needs}
 use Rattle.answers.proofs.First.{leaves-one, tests}
-use Rattle.links.specs.declared.Sender.{Sender}
 use Rattle.links.proofs.Keying.{key-refused, key-done}
 use Rattle.links.proofs.Sender.key as fn
 
 returns-2 : fn.Tie.Need-returns-2
 returns-2 c =
-    let a = c .before .before .before .before .args in
+    let km = c .before in
+    let a = km .before .before .before .before .args in
     leaves-one (key-done _ _ (omega (arith, tests))) refl _ _
-    (ap₂ {C = Sender} (λ (ke km : List ℕ). record { keyed = true; number = a .number; last = 0; ke = ke; km = km })
-    (c .before .blocks-at .ensures) (c .blocks-at2 .ensures))
+    (λ i. record {
+      keyed = true;
+      number = a .number;
+      last = 0;
+      width = c .told .ensures i;
+      ke = km .before .blocks-at .ensures i;
+      km = km .blocks-at2 .ensures i;
+    })
 
 pub key-spec : {M : Type 1} → fn.Statement.statement M
 key-spec = fn.Tie.close (fn.Tie.spec (λ c. leaves-one (key-refused _ _ 0 tt (omega (arith, tests))) refl _ _ refl) (λ c κs. search needs)
-    (λ c κs. search needs) returns-2)
+    (λ c κs. search needs) (λ c κs. search needs) returns-2)
