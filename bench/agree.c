@@ -23,15 +23,20 @@ enum {
     RECORD = RASPPUCE_RECORD_MOST + 2,
     BODY = RASPPUCE_BODY_MOST + 4,
     VALUES = RASPPUCE_VALUES_BYTES + 1,
-    LAST_AT = 5,   /* places in a link: its last number, of a receiver the highest accepted */
-    WINDOW_AT = 41 /* of a receiver only */
+    LAST_AT = 5,    /* places in a link: its last number, of a receiver the highest accepted */
+    WINDOW_AT = 45, /* of a receiver only */
+    SEQUENCE_AT = 4 /* in a record */
 };
 
 /* ---- numbers as bytes */
 
-static uint32_t big_endian_at(const uint8_t *bytes)
+/* Of eight bytes. */
+static uint64_t big_endian_at(const uint8_t *bytes)
 {
-    return (uint32_t)bytes[0] << 24 | (uint32_t)bytes[1] << 16 | (uint32_t)bytes[2] << 8 | bytes[3];
+    uint64_t x = 0;
+    for (int i = 0; i < 8; i++)
+        x = x << 8 | bytes[i];
+    return x;
 }
 
 static void put_big_endian(uint8_t *bytes, int len, uint64_t x)
@@ -47,10 +52,22 @@ static size_t random_below(size_t n)
     return (size_t)(random_number() % n);
 }
 
-/* A number that is small once in a while, and 0 at times. */
-static uint32_t random_sequence(void)
+/* A width as it is told: 0, 1, or any number. */
+static uint32_t random_width(void)
 {
-    return random_below(8) == 0 ? (uint32_t)random_below(3) : (uint32_t)random_number();
+    return random_below(2) == 0 ? 0 : random_below(2) == 0 ? 1 : 1 + (uint32_t)random_below(UINT32_MAX);
+}
+
+/* A number of 32 bits, or near 0, 2^32 or 2^64, or any; 0 at times. */
+static uint64_t random_sequence(void)
+{
+    switch (random_below(8)) {
+    case 0:  return random_below(3);
+    case 1:  return UINT32_MAX - 1 + random_below(4);
+    case 2:  return UINT64_MAX - random_below(3);
+    case 3:  return random_number();
+    default: return random_number() >> 32;
+    }
 }
 
 /* The length of an output: `need` or one more, and once in a while one less. */
@@ -102,14 +119,15 @@ static int plain_sealings_agree(void)
 {
     for (int i = 0; i < PLAIN_RECORDS; i++) {
         uint8_t keys[KEYS], message[MESSAGE], a[RECORD], b[RECORD];
-        size_t length = random_below(MESSAGE + 1), room = random_room(length + RASPPUCE_RECORD_ADDS);
-        uint32_t number = (uint32_t)random_number(), sequence = random_sequence();
+        uint32_t number = (uint32_t)random_number(), wide = random_width();
+        uint64_t sequence = random_sequence();
+        size_t length = random_below(MESSAGE + 1), room = random_room(length + RASPPUCE_RECORD_ADDS(wide));
         random_bytes(keys, KEYS);
         random_bytes(message, MESSAGE);
         random_bytes(a, RECORD);
         memcpy(b, a, RECORD);
-        uint32_t x = rasppuce_seal_plain(keys, KEYS, number, sequence, message, length, a, room);
-        uint32_t y = baseline_seal_plain(keys, KEYS, number, sequence, message, length, b, room);
+        uint32_t x = rasppuce_seal_plain(keys, KEYS, number, wide, sequence, message, length, a, room);
+        uint32_t y = baseline_seal_plain(keys, KEYS, number, wide, sequence, message, length, b, room);
         if (x != y || memcmp(a, b, RECORD) != 0)
             return differ("plain seal", i);
     }
@@ -118,27 +136,29 @@ static int plain_sealings_agree(void)
 
 /* ---- opening, on links that keep what they accepted */
 
-/* A highest number: near the first or the last one, or any. */
-static uint32_t random_highest(void)
+/* A highest number for a link of a width: near the first or the last one, or any; of a wide one, also
+ * near 2^32. At times it is one that a narrow link can't have. */
+static uint64_t random_highest(uint32_t wide)
 {
-    switch (random_below(3)) {
-    case 0:  return (uint32_t)random_below(100);
-    case 1:  return UINT32_MAX - (uint32_t)random_below(100);
-    default: return (uint32_t)random_number();
+    switch (random_below(wide != 0 ? 4 : 3)) {
+    case 0:  return random_below(100);
+    case 1:  return RASPPUCE_SEQUENCE_MOST(wide) - random_below(100);
+    case 2:  return random_below(4) == 0 ? random_sequence() : random_number() & RASPPUCE_SEQUENCE_MOST(wide);
+    default: return UINT32_MAX - 50 + random_below(100);
     }
 }
 
 /* Numbers accepted before: the highest, and a window, with all its bits set at times. */
-static void random_window(uint8_t *link)
+static void random_window(uint8_t *link, uint32_t wide)
 {
-    put_big_endian(link + LAST_AT, 4, random_highest());
+    put_big_endian(link + LAST_AT, 8, random_highest(wide));
     put_big_endian(link + WINDOW_AT, 8, random_below(4) == 0 ? UINT64_MAX : random_number());
 }
 
 /* A number for a record: mostly near the highest one, below or above, often where the window begins. */
-static uint32_t random_near(uint32_t highest)
+static uint64_t random_near(uint64_t highest)
 {
-    uint32_t away = (uint32_t)(random_below(2) == 0 ? 62 + random_below(4) : random_below(80));
+    uint64_t away = random_below(2) == 0 ? 62 + random_below(4) : random_below(80);
     switch (random_below(16)) {
     case 0:  return 0;
     case 1:  return random_sequence();
@@ -146,30 +166,38 @@ static uint32_t random_near(uint32_t highest)
     case 3:
     case 4:
     case 5:  return highest + away;
-    default: return away <= highest ? highest - away : (uint32_t)random_below(highest + 1);
+    default: return away <= highest ? highest - away : random_below(highest + 1);
     }
 }
 
-/* A record of the link, with one bit changed at times. Number 0 can't be sealed: it is put in by hand. */
-static void random_record(const uint8_t *keys, uint32_t number, uint32_t sequence, const uint8_t *message,
-                          size_t length, uint8_t *record)
+/* A record of the link, with one bit changed at times. Numbers that can't be sealed are put in by hand. */
+static void random_record(const uint8_t *keys, uint32_t number, uint32_t wide, uint64_t sequence,
+                          const uint8_t *message, size_t length, uint8_t *record)
 {
-    baseline_seal_plain(keys, KEYS, number, sequence == 0 ? 1 : sequence, message, length, record, RECORD);
-    if (sequence == 0)
-        put_big_endian(record + 4, 4, 0);
+    int can_be = 1 <= sequence && sequence <= RASPPUCE_SEQUENCE_MOST(wide);
+    baseline_seal_plain(keys, KEYS, number, wide, can_be ? sequence : 1, message, length, record, RECORD);
+    put_big_endian(record + SEQUENCE_AT, RASPPUCE_SEQUENCE_BYTES(wide), sequence);
     if (random_below(8) == 0)
-        record[random_below(length + RASPPUCE_RECORD_ADDS)] ^= (uint8_t)(1 << random_below(8));
+        record[random_below(length + RASPPUCE_RECORD_ADDS(wide))] ^= (uint8_t)(1 << random_below(8));
+}
+
+/* Once in a while another width byte: the other width's, or one of no width. */
+static void random_width_byte(uint8_t *byte)
+{
+    if (random_below(16) == 0)
+        *byte = (uint8_t)(random_below(2) == 0 ? random_below(4) : random_below(256));
 }
 
 /* A new link with new keys, left unkeyed at times; at times it has accepted numbers already. */
-static int random_receiver(uint8_t *keys, uint32_t number, uint8_t *link)
+static int random_receiver(uint8_t *keys, uint32_t number, uint32_t wide, uint8_t *link)
 {
     random_bytes(keys, KEYS);
     memset(link, 0, RASPPUCE_RECEIVER_BYTES);
     uint32_t answer = random_below(8) == 0 ? RASPPUCE_OK
-        : rasppuce_key_receiver(link, RASPPUCE_RECEIVER_BYTES, number, keys, KEYS);
+        : rasppuce_key_receiver(link, RASPPUCE_RECEIVER_BYTES, number, wide, keys, KEYS);
     if (random_below(2) == 0)
-        random_window(link);
+        random_window(link, wide);
+    random_width_byte(link + RASPPUCE_RECEIVER_BYTES - 1);
     return answer == RASPPUCE_OK;
 }
 
@@ -177,21 +205,22 @@ static int random_receiver(uint8_t *keys, uint32_t number, uint8_t *link)
 static int openings_agree(void)
 {
     uint8_t keys[KEYS] = {0}, link[RASPPUCE_RECEIVER_BYTES] = {0}, link_of_c[RASPPUCE_RECEIVER_BYTES] = {0};
-    uint32_t number = 0;
+    uint32_t number = 0, wide = 0;
     for (int i = 0; i < OPENINGS; i++) {
         uint8_t message[MESSAGE], record[RECORD], a[MESSAGE], b[MESSAGE];
         size_t length = random_below(RASPPUCE_MESSAGE_MOST + 1), room = length == 0 ? 0 : random_room(length);
-        size_t record_len = length + RASPPUCE_RECORD_ADDS;
         if (i % ON_A_LINK == 0) {
             number = (uint32_t)random_number();
-            if (!random_receiver(keys, number, link))
+            wide = random_width();
+            if (!random_receiver(keys, number, wide, link))
                 return differ("key receiver", i);
             memcpy(link_of_c, link, sizeof link);
         }
+        size_t record_len = length + RASPPUCE_RECORD_ADDS(wide);
         random_bytes(message, MESSAGE);
         random_bytes(a, MESSAGE);
         memcpy(b, a, MESSAGE);
-        random_record(keys, number, random_near(big_endian_at(link + LAST_AT)), message, length, record);
+        random_record(keys, number, wide, random_near(big_endian_at(link + LAST_AT)), message, length, record);
         uint32_t x = rasppuce_open(link, sizeof link, record, record_len, a, room);
         uint32_t y = baseline_open(link_of_c, sizeof link, record, record_len, b, room);
         if (x != y || memcmp(link, link_of_c, sizeof link) != 0 || memcmp(a, b, MESSAGE) != 0)
@@ -221,10 +250,11 @@ static int shared_sealings_agree(void)
         uint8_t key_shares[RASPPUCE_SENDER_KEY_BYTES], keys[KEYS], message[MESSAGE];
         uint8_t a[RECORD], b[RECORD], plain[RECORD], shares[SHARES], shares_of_c[SHARES];
         uint8_t link[RASPPUCE_SENDER_BYTES] = {0}, link_of_c[RASPPUCE_SENDER_BYTES];
-        size_t length = random_below(MESSAGE + 1), room = random_room(length + RASPPUCE_RECORD_ADDS);
+        uint32_t number = (uint32_t)random_number(), wide = random_width();
+        uint64_t last = random_sequence() - 1;
+        size_t length = random_below(MESSAGE + 1), room = random_room(length + RASPPUCE_RECORD_ADDS(wide));
         size_t shares_room = random_room(RASPPUCE_SHARES_BYTES);
         size_t tape_len = random_below(32) == 0 ? RASPPUCE_TAPE_BYTES(length) - 1 : sizeof tape;
-        uint32_t number = (uint32_t)random_number(), last = random_sequence() - 1;
         random_bytes(key_shares, sizeof key_shares);
         random_bytes(message, MESSAGE);
         random_bytes(tape, sizeof tape);
@@ -234,9 +264,10 @@ static int shared_sealings_agree(void)
         random_bytes(shares, SHARES);
         memcpy(shares_of_c, shares, SHARES);
         if (random_below(32) != 0
-            && rasppuce_key_sender(link, sizeof link, number, key_shares, sizeof key_shares) != RASPPUCE_OK)
+            && rasppuce_key_sender(link, sizeof link, number, wide, key_shares, sizeof key_shares) != RASPPUCE_OK)
             return differ("key sender", i);
-        put_big_endian(link + LAST_AT, 4, last);
+        put_big_endian(link + LAST_AT, 8, last);
+        random_width_byte(link + sizeof link - 1);
         memcpy(link_of_c, link, sizeof link);
         uint32_t x = rasppuce_seal(link, sizeof link, message, length, tape, tape_len, a, room,
                                    shares, shares_room);
@@ -247,7 +278,7 @@ static int shared_sealings_agree(void)
             return differ("shared seal", i);
         join_keys(key_shares, keys);
         if (x == RASPPUCE_OK)
-            baseline_seal_plain(keys, KEYS, number, last + 1, message, length, plain, room);
+            baseline_seal_plain(keys, KEYS, number, link[sizeof link - 1], last + 1, message, length, plain, room);
         if (memcmp(a, plain, RECORD) != 0)
             return differ("shared seal and plain record", i);
     }
@@ -346,8 +377,8 @@ int all_agree(void)
         return 0;
     printf("The archive and C agree on %d random blocks in each block call, on %d\n"
            "records plainly sealed, on %d opened in any order and on %d sealed on\n"
-           "shares, of 0 to 256 bytes, on %d bodies read and %d written, refused\n"
-           "ones among them.\n\n",
+           "shares, of 0 to 256 bytes, narrow and wide, on %d bodies read and %d\n"
+           "written, refused ones among them.\n\n",
            BLOCKS, PLAIN_RECORDS, OPENINGS, SHARED_RECORDS, BODIES, BODIES);
     return 1;
 }

@@ -9,11 +9,11 @@
 
 enum {
     BLOCK = 16,
-    HEAD = 8,        /* link number and sequence number, in front of a record's ciphertext */
-    LINK_NUMBER = 1, /* places in a link */
+    SEQUENCE = 4,    /* where the sequence number stands in a record */
+    LINK_NUMBER = 1, /* places in a link, whose last byte is its width */
     LINK_LAST = 5,   /* of a receiver: the highest number accepted */
-    LINK_KEYS = 9,
-    LINK_WINDOW = 41 /* of a receiver only */
+    LINK_KEYS = 13,
+    LINK_WINDOW = 45 /* of a receiver only */
 };
 
 /* ---- numbers and blocks as bytes */
@@ -31,25 +31,63 @@ static void put_number(uint8_t *bytes, uint32_t x)
     bytes[3] = (uint8_t)x;
 }
 
-static uint64_t wide_at(const uint8_t *bytes)
+static uint64_t word_at(const uint8_t *bytes)
 {
     return (uint64_t)number_at(bytes) << 32 | number_at(bytes + 4);
 }
 
-static void put_wide(uint8_t *bytes, uint64_t x)
+static void put_word(uint8_t *bytes, uint64_t x)
 {
     put_number(bytes, (uint32_t)(x >> 32));
     put_number(bytes + 4, (uint32_t)x);
 }
 
-static packed counter_block(uint32_t number, uint32_t sequence, uint32_t i)
+static packed counter_block(uint32_t number, uint64_t sequence, uint32_t i)
 {
-    uint8_t block[BLOCK] = {0};
+    uint8_t block[BLOCK];
     put_number(block, number);
-    put_number(block + 8, sequence);
+    put_word(block + 4, sequence);
     put_number(block + 12, i);
     return pack(block);
 }
+
+/* ---- what a width decides */
+
+/* The bytes of link number and sequence number, in front of a record's ciphertext. */
+static size_t head_len(int is_wide)
+{
+    return is_wide ? 12 : 8;
+}
+
+static uint64_t last_sequence(int is_wide)
+{
+    return is_wide ? UINT64_MAX : UINT32_MAX;
+}
+
+static uint64_t sequence_at(const uint8_t *record, int is_wide)
+{
+    return is_wide ? word_at(record + SEQUENCE) : number_at(record + SEQUENCE);
+}
+
+static void put_head(uint8_t *record, uint32_t number, int is_wide, uint64_t sequence)
+{
+    put_number(record, number);
+    if (is_wide)
+        put_word(record + SEQUENCE, sequence);
+    else
+        put_number(record + SEQUENCE, (uint32_t)sequence);
+}
+
+/* The link has this length, is keyed, is of one of the widths, and its number fits that. */
+static int is_keyed(const uint8_t *link, size_t link_len, size_t expected_len)
+{
+    if (link_len != expected_len || link[0] != 1)
+        return 0;
+    uint8_t width = link[link_len - 1];
+    return width <= 1 && word_at(link + LINK_LAST) <= last_sequence(width);
+}
+
+/* ---- blocks of a text */
 
 /* How many blocks hold `length` bytes. */
 static size_t block_count(size_t length)
@@ -119,7 +157,7 @@ uint32_t baseline_decrypt_packed(const uint8_t *key, size_t key_len, const uint8
 /* ---- plain sealing and opening */
 
 /* CTR: the ciphertext of a message, or the message of a ciphertext. */
-static void crypt(const uint8_t *ke, uint32_t number, uint32_t sequence, const uint8_t *text, size_t length,
+static void crypt(const uint8_t *ke, uint32_t number, uint64_t sequence, const uint8_t *text, size_t length,
                   uint8_t *out)
 {
     packed key = pack(ke);
@@ -137,7 +175,7 @@ static packed last_subkey(packed key, size_t length)
 }
 
 /* CMAC of counter block 0 followed by a ciphertext. */
-static void put_tag(const uint8_t *km, uint32_t number, uint32_t sequence, const uint8_t *text, size_t length,
+static void put_tag(const uint8_t *km, uint32_t number, uint64_t sequence, const uint8_t *text, size_t length,
                     uint8_t *tag)
 {
     packed key = pack(km);
@@ -151,20 +189,20 @@ static void put_tag(const uint8_t *km, uint32_t number, uint32_t sequence, const
     unpack(encrypt_words(key, add(chain, block)), tag);
 }
 
-uint32_t baseline_seal_plain(const uint8_t *keys, size_t keys_len, uint32_t number, uint32_t sequence,
+uint32_t baseline_seal_plain(const uint8_t *keys, size_t keys_len, uint32_t number, uint32_t wide, uint64_t sequence,
                              const uint8_t *message, size_t message_len, uint8_t *record, size_t record_len)
 {
+    int is_wide = wide != 0;
     if (keys_len != RASPPUCE_RECEIVER_KEY_BYTES)
         return RASPPUCE_KEYS;
-    if (sequence == 0)
+    if (sequence == 0 || sequence > last_sequence(is_wide))
         return RASPPUCE_SEQUENCE;
     if (message_len > RASPPUCE_MESSAGE_MOST)
         return RASPPUCE_MESSAGE;
-    if (record_len < message_len + RASPPUCE_RECORD_ADDS)
+    if (record_len < head_len(is_wide) + message_len + BLOCK)
         return RASPPUCE_OUTPUT;
-    uint8_t *text = record + HEAD;
-    put_number(record, number);
-    put_number(record + 4, sequence);
+    uint8_t *text = record + head_len(is_wide);
+    put_head(record, number, is_wide, sequence);
     crypt(keys, number, sequence, message, message_len, text);
     put_tag(keys + BLOCK, number, sequence, text, message_len, text + message_len);
     return RASPPUCE_OK;
@@ -181,59 +219,60 @@ static int same_block(const uint8_t *a, const uint8_t *b)
 
 /* The anti-replay window: the highest number accepted, and a word; its bit k is for the number k below. */
 typedef struct {
-    uint32_t highest;
-    uint64_t accepted;
+    uint64_t highest, accepted;
 } window;
 
 /* The number is 0 or below the window. */
-static int is_below(window w, uint32_t sequence)
+static int is_below(window w, uint64_t sequence)
 {
     return sequence == 0 || (sequence < w.highest && w.highest - sequence >= RASPPUCE_WINDOW);
 }
 
 /* The number, which isn't below the window, is in it and was accepted. */
-static int is_repeated(window w, uint32_t sequence)
+static int is_repeated(window w, uint64_t sequence)
 {
     return sequence <= w.highest && (w.accepted >> (w.highest - sequence) & 1) != 0;
 }
 
 /* The window with the number accepted, which is above it or in it. */
-static window with_accepted(window w, uint32_t sequence)
+static window with_accepted(window w, uint64_t sequence)
 {
     if (sequence <= w.highest)
         return (window){w.highest, w.accepted | (uint64_t)1 << (w.highest - sequence)};
-    uint32_t up = sequence - w.highest;
+    uint64_t up = sequence - w.highest;
     return (window){sequence, (up < RASPPUCE_WINDOW ? w.accepted << up : 0) | 1};
 }
 
 uint32_t baseline_open(uint8_t *link, size_t link_len, const uint8_t *record, size_t record_len,
                        uint8_t *message, size_t message_len)
 {
-    if (link_len != RASPPUCE_RECEIVER_BYTES || link[0] != 1)
+    if (!is_keyed(link, link_len, RASPPUCE_RECEIVER_BYTES))
         return RASPPUCE_NOT_KEYED;
-    if (record_len < RASPPUCE_RECORD_ADDS || record_len > RASPPUCE_RECORD_MOST)
+    int is_wide = link[RASPPUCE_RECEIVER_BYTES - 1] == 1;
+    size_t adds = head_len(is_wide) + BLOCK;
+    if (record_len < adds || record_len > adds + RASPPUCE_MESSAGE_MOST)
         return RASPPUCE_RECORD;
     uint32_t number = number_at(record);
     if (number != number_at(link + LINK_NUMBER))
         return RASPPUCE_OTHER_LINK;
-    size_t length = record_len - RASPPUCE_RECORD_ADDS;
+    size_t length = record_len - adds;
     if (message_len < length)
         return RASPPUCE_OUTPUT;
-    uint32_t sequence = number_at(record + 4);
-    window w = {number_at(link + LINK_LAST), wide_at(link + LINK_WINDOW)};
+    uint64_t sequence = sequence_at(record, is_wide);
+    window w = {word_at(link + LINK_LAST), word_at(link + LINK_WINDOW)};
     if (is_below(w, sequence))
         return RASPPUCE_BELOW_WINDOW;
     if (is_repeated(w, sequence))
         return RASPPUCE_REPEATED;
-    const uint8_t *ke = link + LINK_KEYS, *text = record + HEAD;
+    const uint8_t *ke = link + LINK_KEYS, *text = record + head_len(is_wide);
     uint8_t tag[BLOCK];
     put_tag(ke + BLOCK, number, sequence, text, length, tag);
     if (!same_block(tag, text + length))
         return RASPPUCE_TAG;
     crypt(ke, number, sequence, text, length, message);
     w = with_accepted(w, sequence);
-    put_number(link + LINK_LAST, w.highest);
-    put_wide(link + LINK_WINDOW, w.accepted);
+    put_word(link + LINK_LAST, w.highest);
+    put_word(link + LINK_WINDOW, w.accepted);
     return RASPPUCE_OK;
 }
 
@@ -347,21 +386,22 @@ uint32_t baseline_seal(uint8_t *link, size_t link_len, const uint8_t *message, s
                        const uint8_t *tape, size_t tape_len, uint8_t *record, size_t record_len,
                        uint8_t *shares, size_t shares_len)
 {
-    if (link_len != RASPPUCE_SENDER_BYTES || link[0] != 1)
+    if (!is_keyed(link, link_len, RASPPUCE_SENDER_BYTES))
         return RASPPUCE_NOT_KEYED;
-    if (number_at(link + LINK_LAST) == UINT32_MAX)
+    int is_wide = link[RASPPUCE_SENDER_BYTES - 1] == 1;
+    if (word_at(link + LINK_LAST) == last_sequence(is_wide))
         return RASPPUCE_NUMBERS_USED;
     if (message_len > RASPPUCE_MESSAGE_MOST)
         return RASPPUCE_MESSAGE;
     if (tape_len < RASPPUCE_TAPE_BYTES(message_len))
         return RASPPUCE_TAPE;
-    if (record_len < message_len + RASPPUCE_RECORD_ADDS || shares_len < RASPPUCE_SHARES_BYTES)
+    if (record_len < head_len(is_wide) + message_len + BLOCK || shares_len < RASPPUCE_SHARES_BYTES)
         return RASPPUCE_OUTPUT;
 
     uint32_t number = number_at(link + LINK_NUMBER);
-    uint32_t sequence = number_at(link + LINK_LAST) + 1;
+    uint64_t sequence = word_at(link + LINK_LAST) + 1;
     size_t count = block_count(message_len);
-    uint8_t *text = record + HEAD;
+    uint8_t *text = record + head_len(is_wide);
     const uint8_t *at = tape;
 
     triple ke = mask(pack_shares(link + LINK_KEYS), at);
@@ -392,14 +432,13 @@ uint32_t baseline_seal(uint8_t *link, size_t link_len, const uint8_t *message, s
     triple tag = call(km, add_shares(chain, add_shares(subkey, block)), at);
     at += CALL_TAPE;
 
-    put_number(record, number);
-    put_number(record + 4, sequence);
+    put_head(record, number, is_wide, sequence);
     unpack(joined(tag), text + message_len);
     unpack(tag.a, shares);
     unpack(tag.b, shares + BLOCK);
     unpack(tag.c, shares + 2 * BLOCK);
     put_number(shares + 3 * BLOCK, (uint32_t)(at - tape));
-    put_number(link + LINK_LAST, sequence);
+    put_word(link + LINK_LAST, sequence);
     return RASPPUCE_OK;
 }
 
@@ -448,7 +487,7 @@ uint32_t baseline_read_body(const uint8_t *body, size_t body_len, uint8_t *value
         return RASPPUCE_OUTPUT;
     uint64_t seconds = (uint64_t)field(found[1]) << FIELD_BITS | field(found[2]);
     int has_offset = found[OFFSET_KIND] != 0;
-    put_wide(values, seconds);
+    put_word(values, seconds);
     put_number(values + 8, field(found[3]));
     values[12] = (uint8_t)has_offset;
     put_number(values + 13, has_offset ? (uint32_t)minutes(found[OFFSET_KIND]) : 0);

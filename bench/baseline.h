@@ -13,7 +13,7 @@ uint32_t baseline_encrypt_packed(const uint8_t *key, size_t key_len, const uint8
 uint32_t baseline_decrypt_packed(const uint8_t *key, size_t key_len, const uint8_t *input, size_t input_len,
                                  uint8_t *output, size_t output_len);
 
-uint32_t baseline_seal_plain(const uint8_t *keys, size_t keys_len, uint32_t number, uint32_t sequence,
+uint32_t baseline_seal_plain(const uint8_t *keys, size_t keys_len, uint32_t number, uint32_t wide, uint64_t sequence,
                              const uint8_t *message, size_t message_len, uint8_t *record, size_t record_len);
 uint32_t baseline_open(uint8_t *link, size_t link_len, const uint8_t *record, size_t record_len,
                        uint8_t *message, size_t message_len);

@@ -54,6 +54,8 @@ typedef double measure(any_call *call, size_t size, int count);
 
 enum { NUMBER = 7 }; /* the link number of every timed record */
 
+static uint32_t wide; /* the width of every link and record in this run */
+
 /* What the calls gave, so that no result goes unused. */
 static volatile uint8_t sink;
 
@@ -97,14 +99,15 @@ static double seal_plain_ns(any_call *call, size_t size, int count)
 {
     seal_plain_call *seal = (seal_plain_call *)call;
     uint8_t keys[RASPPUCE_RECEIVER_KEY_BYTES], message[RASPPUCE_MESSAGE_MOST], record[RASPPUCE_RECORD_MOST];
-    size_t record_len = size + RASPPUCE_RECORD_ADDS;
+    size_t record_len = size + RASPPUCE_RECORD_ADDS(wide);
     fill(keys, sizeof keys);
     fill(message, sizeof message);
-    uint32_t answers = 0, sequence = 1;
+    uint32_t answers = 0;
+    uint64_t sequence = 1;
     double start = now_ns();
     for (int i = 0; i < count; i++) {
-        answers |= seal(keys, sizeof keys, NUMBER, sequence, message, size, record, record_len);
-        sequence = 1 + (uint32_t)record[record_len - 1];
+        answers |= seal(keys, sizeof keys, NUMBER, wide, sequence, message, size, record, record_len);
+        sequence = 1 + (uint64_t)record[record_len - 1];
     }
     double end = now_ns();
     accepted(answers);
@@ -112,17 +115,17 @@ static double seal_plain_ns(any_call *call, size_t size, int count)
     return (end - start) / count;
 }
 
-/* Opening: the link's 49 bytes are put back before each call, so that the same record is new again. */
+/* Opening: the link's 54 bytes are put back before each call, so that the same record is new again. */
 static double open_ns(any_call *call, size_t size, int count)
 {
     open_call *open = (open_call *)call;
     uint8_t keys[RASPPUCE_RECEIVER_KEY_BYTES], message[RASPPUCE_MESSAGE_MOST], record[RASPPUCE_RECORD_MOST];
     uint8_t keyed[RASPPUCE_RECEIVER_BYTES], link[RASPPUCE_RECEIVER_BYTES];
-    size_t record_len = size + RASPPUCE_RECORD_ADDS;
+    size_t record_len = size + RASPPUCE_RECORD_ADDS(wide);
     fill(keys, sizeof keys);
     fill(message, sizeof message);
-    accepted(rasppuce_key_receiver(keyed, sizeof keyed, NUMBER, keys, sizeof keys));
-    accepted(rasppuce_seal_plain(keys, sizeof keys, NUMBER, 1, message, size, record, record_len));
+    accepted(rasppuce_key_receiver(keyed, sizeof keyed, NUMBER, wide, keys, sizeof keys));
+    accepted(rasppuce_seal_plain(keys, sizeof keys, NUMBER, wide, 1, message, size, record, record_len));
     uint32_t answers = 0;
     double start = now_ns();
     for (int i = 0; i < count; i++) {
@@ -131,7 +134,7 @@ static double open_ns(any_call *call, size_t size, int count)
     }
     double end = now_ns();
     accepted(answers);
-    sink = link[8];
+    sink = link[12];
     return (end - start) / count;
 }
 
@@ -142,11 +145,11 @@ static double seal_ns(any_call *call, size_t size, int count)
     static uint8_t tape[RASPPUCE_TAPE_MOST];
     uint8_t keys[RASPPUCE_SENDER_KEY_BYTES], message[RASPPUCE_MESSAGE_MOST], record[RASPPUCE_RECORD_MOST];
     uint8_t link[RASPPUCE_SENDER_BYTES], shares[RASPPUCE_SHARES_BYTES];
-    size_t record_len = size + RASPPUCE_RECORD_ADDS;
+    size_t record_len = size + RASPPUCE_RECORD_ADDS(wide);
     fill(keys, sizeof keys);
     fill(message, sizeof message);
     fill(tape, sizeof tape);
-    accepted(rasppuce_key_sender(link, sizeof link, NUMBER, keys, sizeof keys));
+    accepted(rasppuce_key_sender(link, sizeof link, NUMBER, wide, keys, sizeof keys));
     uint32_t answers = 0;
     double start = now_ns();
     for (int i = 0; i < count; i++) {
@@ -216,40 +219,44 @@ typedef struct {
     any_call *proved;
     any_call *baseline;
     size_t size;
+    uint32_t wide;
     double budget;          /* the ratio allowed; 0 for none */
     double ns, baseline_ns; /* the best run of each */
 } row;
 
 #define BLOCK_ROW(name, proved, baseline, budget) \
-    {name, block_ns, ANY(proved), ANY(baseline), 16, budget, 0, 0}
-#define PLAIN_ROW(name, size, budget) \
-    {name, seal_plain_ns, ANY(rasppuce_seal_plain), ANY(baseline_seal_plain), size, budget, 0, 0}
-#define OPEN_ROW(name, size, budget) \
-    {name, open_ns, ANY(rasppuce_open), ANY(baseline_open), size, budget, 0, 0}
-#define SHARED_ROW(name, size, budget) \
-    {name, seal_ns, ANY(rasppuce_seal), ANY(baseline_seal), size, budget, 0, 0}
+    {name, block_ns, ANY(proved), ANY(baseline), 16, 0, budget, 0, 0}
+#define PLAIN_ROW(name, size, wide, budget) \
+    {name, seal_plain_ns, ANY(rasppuce_seal_plain), ANY(baseline_seal_plain), size, wide, budget, 0, 0}
+#define OPEN_ROW(name, size, wide, budget) \
+    {name, open_ns, ANY(rasppuce_open), ANY(baseline_open), size, wide, budget, 0, 0}
+#define SHARED_ROW(name, size, wide, budget) \
+    {name, seal_ns, ANY(rasppuce_seal), ANY(baseline_seal), size, wide, budget, 0, 0}
 #define READ_ROW(name, size) \
-    {name, read_body_ns, ANY(rasppuce_read_body), ANY(baseline_read_body), size, 0, 0, 0}
+    {name, read_body_ns, ANY(rasppuce_read_body), ANY(baseline_read_body), size, 0, 0, 0, 0}
 #define WRITE_ROW(name, size) \
-    {name, write_body_ns, ANY(rasppuce_write_body), ANY(baseline_write_body), size, 0, 0, 0}
+    {name, write_body_ns, ANY(rasppuce_write_body), ANY(baseline_write_body), size, 0, 0, 0, 0}
 
 static row rows[] = {
     BLOCK_ROW("encrypt packed", rasppuce_encrypt_packed, baseline_encrypt_packed, PLAIN_BUDGET),
     BLOCK_ROW("decrypt packed", rasppuce_decrypt_packed, baseline_decrypt_packed, PLAIN_BUDGET),
     BLOCK_ROW("encrypt table (C: packed)", rasppuce_encrypt_table, baseline_encrypt_packed, 0),
     BLOCK_ROW("decrypt table (C: packed)", rasppuce_decrypt_table, baseline_decrypt_packed, 0),
-    PLAIN_ROW("plain seal of 16 bytes", 16, 0),
-    PLAIN_ROW("plain seal of 256 bytes", 256, PLAIN_BUDGET),
-    OPEN_ROW("open 16 bytes", 16, 0),
-    OPEN_ROW("open 256 bytes", 256, PLAIN_BUDGET),
-    SHARED_ROW("shared seal of 16 bytes", 16, SHARED_BUDGET),
-    SHARED_ROW("shared seal of 256 bytes", 256, SHARED_BUDGET),
+    PLAIN_ROW("plain seal of 16 bytes", 16, RASPPUCE_NARROW, 0),
+    PLAIN_ROW("plain seal of 256 bytes", 256, RASPPUCE_NARROW, PLAIN_BUDGET),
+    PLAIN_ROW("plain seal of 256 bytes, wide", 256, RASPPUCE_WIDE, PLAIN_BUDGET),
+    OPEN_ROW("open 16 bytes", 16, RASPPUCE_NARROW, 0),
+    OPEN_ROW("open 256 bytes", 256, RASPPUCE_NARROW, PLAIN_BUDGET),
+    OPEN_ROW("open 256 bytes, wide", 256, RASPPUCE_WIDE, PLAIN_BUDGET),
+    SHARED_ROW("shared seal of 16 bytes", 16, RASPPUCE_NARROW, SHARED_BUDGET),
+    SHARED_ROW("shared seal of 256 bytes", 256, RASPPUCE_NARROW, SHARED_BUDGET),
+    SHARED_ROW("shared seal of 256 bytes, wide", 256, RASPPUCE_WIDE, SHARED_BUDGET),
     READ_ROW("read body of 16 bytes", 16),
     READ_ROW("read body of 256 bytes", 256),
     WRITE_ROW("write body of 16 bytes", 16),
 };
 
-/* The second table and the plot: what calls cost by the length of the message. */
+/* The second table and the plot: what calls cost by the length of the message, on narrow links. */
 
 enum { LENGTHS = 10, PRINTED = 5 };
 
@@ -288,6 +295,7 @@ static void run_rows(void)
 {
     for (int i = 0; i < ROWS; i++) {
         row *r = &rows[i];
+        wide = r->wide;
         run(r->measure, r->proved, r->size, &r->ns);
         run(r->measure, r->baseline, r->size, &r->baseline_ns);
     }
@@ -295,6 +303,7 @@ static void run_rows(void)
 
 static void run_curves(void)
 {
+    wide = RASPPUCE_NARROW;
     for (int i = 0; i < CURVES; i++)
         for (int j = 0; j < LENGTHS; j++) {
             curve *c = &curves[i];
@@ -327,10 +336,10 @@ static int is_over(const row *r)
 
 static void print_rows(void)
 {
-    printf("%-28s %10s %10s %8s %8s\n", "call", "ns a call", "ns of C", "ratio", "budget");
+    printf("%-30s %10s %10s %8s %8s\n", "call", "ns a call", "ns of C", "ratio", "budget");
     for (int i = 0; i < ROWS; i++) {
         const row *r = &rows[i];
-        printf("%-28s %10.1f %10.1f %8.2f", r->name, r->ns, r->baseline_ns, ratio(r));
+        printf("%-30s %10.1f %10.1f %8.2f", r->name, r->ns, r->baseline_ns, ratio(r));
         if (r->budget == 0)
             printf(" %8s\n", "-");
         else

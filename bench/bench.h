@@ -8,8 +8,9 @@
 /* The shapes of the calls. */
 typedef uint32_t block_call(const uint8_t *key, size_t key_len, const uint8_t *input, size_t input_len,
                             uint8_t *output, size_t output_len);
-typedef uint32_t seal_plain_call(const uint8_t *keys, size_t keys_len, uint32_t number, uint32_t sequence,
-                                 const uint8_t *message, size_t message_len, uint8_t *record, size_t record_len);
+typedef uint32_t seal_plain_call(const uint8_t *keys, size_t keys_len, uint32_t number, uint32_t wide,
+                                 uint64_t sequence, const uint8_t *message, size_t message_len,
+                                 uint8_t *record, size_t record_len);
 typedef uint32_t open_call(uint8_t *link, size_t link_len, const uint8_t *record, size_t record_len,
                            uint8_t *message, size_t message_len);
 typedef uint32_t seal_call(uint8_t *link, size_t link_len, const uint8_t *message, size_t message_len,

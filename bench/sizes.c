@@ -1,10 +1,10 @@
 /*
  * Measures the stack of each call of librasppuce.a, and which secrets it leaves there.
  *
- * A call is made on a stack of its own, with messages of each length from 0 to 256 or bodies of 16 to 256
- * bytes, and for each length with several sets of random secrets. The stack is filled with random bytes
- * before, in two ways that have no byte in common, so that the lowest byte that the call writes is seen
- * whatever it writes.
+ * A call is made on a stack of its own, with messages of each length from 0 to 256, narrow and wide, or
+ * bodies of 16 to 256 bytes, and for each length with several sets of random secrets. The stack is filled
+ * with random bytes before, in two ways that have no byte in common, so that the lowest byte that the call
+ * writes is seen whatever it writes.
  * A secret is left where a byte of that stack equals the same byte of it for every set of secrets.
  *
  * Prints a line for each call: its name, how many bytes below its return address it writes, and the
@@ -159,17 +159,18 @@ static void add_shares(int set, const uint8_t *shares, const uint8_t *masks)
     }
 }
 
-/* The message, and the key stream, which gives the message to whoever has the record. */
+/* The message, and the key stream, which gives the message to whoever has the record; it is the same at
+ * both widths. */
 static void add_message(int set, const secrets *s)
 {
     static const uint8_t zeros[RASPPUCE_MESSAGE_MOST];
     uint8_t record[RASPPUCE_RECORD_MOST];
-    uint32_t answer = rasppuce_seal_plain(s->keys, sizeof s->keys, NUMBER, SEQUENCE, zeros, sizeof zeros,
-                                          record, sizeof record);
+    uint32_t answer = rasppuce_seal_plain(s->keys, sizeof s->keys, NUMBER, RASPPUCE_WIDE, SEQUENCE,
+                                          zeros, sizeof zeros, record, sizeof record);
     require(answer == RASPPUCE_OK, "Sealing zeros was refused.");
     for (size_t i = 0; i < RASPPUCE_MESSAGE_MOST; i += 16) {
         add_block(set, MESSAGE, pack(s->message + i));
-        add_block(set, STREAM, pack(record + 8 + i));
+        add_block(set, STREAM, pack(record + 12 + i));
     }
 }
 
@@ -228,6 +229,7 @@ static uint8_t tag_shares[RASPPUCE_SHARES_BYTES], lane[RASPPUCE_LANE_BYTES];
 static uint8_t plain_block[16], cipher_block[16];
 static uint8_t body[RASPPUCE_BODY_BYTES(1)], values[RASPPUCE_VALUES_BYTES];
 static size_t length; /* of the message */
+static uint32_t wide; /* the width of the links and the record */
 
 /* Keyed links, a record to open, and blocks, whatever a call wrote before. */
 static void lend(const secrets *s)
@@ -235,16 +237,16 @@ static void lend(const secrets *s)
     lent = s;
     memcpy(plain_block, s->message, 16);
     uint32_t answers = rasppuce_encrypt_table(s->keys, 16, plain_block, 16, cipher_block, 16);
-    answers |= rasppuce_key_sender(sender, sizeof sender, NUMBER, s->key_shares, sizeof s->key_shares);
-    answers |= rasppuce_key_receiver(receiver, sizeof receiver, NUMBER, s->keys, sizeof s->keys);
-    answers |= rasppuce_seal_plain(s->keys, sizeof s->keys, NUMBER, SEQUENCE, s->message, length,
+    answers |= rasppuce_key_sender(sender, sizeof sender, NUMBER, wide, s->key_shares, sizeof s->key_shares);
+    answers |= rasppuce_key_receiver(receiver, sizeof receiver, NUMBER, wide, s->keys, sizeof s->keys);
+    answers |= rasppuce_seal_plain(s->keys, sizeof s->keys, NUMBER, wide, SEQUENCE, s->message, length,
                                    record, sizeof record);
     require(answers == RASPPUCE_OK, "A call before the measured one was refused.");
 }
 
 /* Any call; a function that makes it knows its true type. */
 typedef void any_call(void);
-typedef uint32_t key_call(uint8_t *link, size_t link_len, uint32_t number,
+typedef uint32_t key_call(uint8_t *link, size_t link_len, uint32_t number, uint32_t wide,
                           const uint8_t *keys, size_t keys_len);
 typedef uint32_t report_call(const uint8_t *link, size_t link_len,
                              const uint8_t *message, size_t message_len,
@@ -257,13 +259,13 @@ static volatile uint32_t answer;
 
 static void make_key_sender(void)
 {
-    answer = ((key_call *)call)(sender, sizeof sender, NUMBER, lent->key_shares, sizeof lent->key_shares);
+    answer = ((key_call *)call)(sender, sizeof sender, NUMBER, wide, lent->key_shares, sizeof lent->key_shares);
     after();
 }
 
 static void make_key_receiver(void)
 {
-    answer = ((key_call *)call)(receiver, sizeof receiver, NUMBER, lent->keys, sizeof lent->keys);
+    answer = ((key_call *)call)(receiver, sizeof receiver, NUMBER, wide, lent->keys, sizeof lent->keys);
     after();
 }
 
@@ -276,14 +278,14 @@ static void make_seal(void)
 
 static void make_open(void)
 {
-    answer = ((open_call *)call)(receiver, sizeof receiver, record, length + RASPPUCE_RECORD_ADDS,
+    answer = ((open_call *)call)(receiver, sizeof receiver, record, length + RASPPUCE_RECORD_ADDS(wide),
                                  opened, sizeof opened);
     after();
 }
 
 static void make_seal_plain(void)
 {
-    answer = ((seal_plain_call *)call)(lent->keys, sizeof lent->keys, NUMBER, SEQUENCE,
+    answer = ((seal_plain_call *)call)(lent->keys, sizeof lent->keys, NUMBER, wide, SEQUENCE,
                                        lent->message, length, record, sizeof record);
     after();
 }
@@ -446,15 +448,16 @@ static finding look(const row *r, any_call *then)
     return (finding){depth, kinds_seen(depth)};
 }
 
-/* The same for each length: the deepest, and every kind that was left once. */
+/* The same for each width and length: the deepest, and every kind that was left once. */
 static finding look_at_all_lengths(const row *r, any_call *then)
 {
     finding all = {0, 0};
-    for (length = 0; length <= RASPPUCE_MESSAGE_MOST; length++) {
-        finding one = look(r, then);
-        all.depth = larger(all.depth, one.depth);
-        all.left |= one.left;
-    }
+    for (wide = RASPPUCE_NARROW; wide <= RASPPUCE_WIDE; wide++)
+        for (length = 0; length <= RASPPUCE_MESSAGE_MOST; length++) {
+            finding one = look(r, then);
+            all.depth = larger(all.depth, one.depth);
+            all.left |= one.left;
+        }
     return all;
 }
 

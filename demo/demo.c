@@ -1,6 +1,7 @@
 /*
  * The first screen: a time mark is sealed, opened and read, two more arrive in the wrong order, and
- * three wrong records are refused. The exit status is 1 if anything is not as the text says.
+ * three wrong records are refused, one of them from a wide link. The exit status is 1 if anything is
+ * not as the text says.
  */
 #include "link.h"
 #include "screen.h"
@@ -16,12 +17,15 @@ static const time_mark later_marks[LATER] = {
     {1772456711, QUARTER, 60, "2026-03-02 14:05:11.250 +01:00"},
     {1772456712, QUARTER, 60, "2026-03-02 14:05:12.250 +01:00"}};
 
+/* Another link, which is wide, and a number that no narrow one has. */
 enum { OTHER_LINK = 8 };
+static const uint64_t other_sequence = 4294967296;
 
 /* Where the fields of a record begin; the link number stands at its start. */
 enum {
     NUMBER_AT = RASPPUCE_NUMBER_BYTES,
-    TEXT_AT = NUMBER_AT + RASPPUCE_SEQUENCE_BYTES,
+    TEXT_AT = NUMBER_AT + RASPPUCE_SEQUENCE_BYTES(RASPPUCE_NARROW),
+    WIDE_TEXT_AT = NUMBER_AT + RASPPUCE_SEQUENCE_BYTES(RASPPUCE_WIDE),
     TAG_AT = TEXT_AT + BODY_BYTES
 };
 
@@ -65,12 +69,12 @@ static void show_cipher(void)
 /* ---- keys */
 
 /* Where the keys begin in a link: behind a byte that says that it is keyed, and two numbers. */
-enum { KEYS_AT = 1 + RASPPUCE_NUMBER_BYTES + RASPPUCE_SEQUENCE_BYTES };
+enum { KEYS_AT = 1 + RASPPUCE_NUMBER_BYTES + RASPPUCE_SEQUENCE_BYTES(RASPPUCE_WIDE) };
 
 /* Both ends of the link get their keys. */
 static void show_keys(both_ends *ends)
 {
-    int keyed = key_both(ends, LINK);
+    int keyed = key_both(ends, LINK, RASPPUCE_NARROW);
     end_line(printf("2 Link %d: its receiver gets two keys, its sender 3 shares (parts) of each",
                     LINK),
              keyed && memcmp(ends->sender + KEYS_AT, ends->shares, sizeof ends->shares) == 0
@@ -118,8 +122,8 @@ static void show_sealing(both_ends *ends, uint8_t record[RECORD_BYTES])
 {
     uint8_t body[BODY_BYTES] = {0}, plain[RECORD_BYTES] = {0};
     int sealed = seal_next(ends, &our_mark, body, record)
-              && rasppuce_seal_plain(ends->keys, sizeof ends->keys, LINK, 1, body, sizeof body,
-                                     plain, sizeof plain) == RASPPUCE_OK;
+              && rasppuce_seal_plain(ends->keys, sizeof ends->keys, LINK, RASPPUCE_NARROW, 1,
+                                     body, sizeof body, plain, sizeof plain) == RASPPUCE_OK;
     printf("3 The mark's body is 4 words: seconds since 1970 (2 words), fraction, offset.\n");
     print_field("body", body, sizeof body, "\"" OUR_TIME "\"");
     end_line(printf("  Sealing it by shares or plainly (by whole keys) gives one record to send:"),
@@ -138,33 +142,53 @@ static void show_opening(both_ends *ends, const uint8_t record[RECORD_BYTES], co
 {
     uint8_t body[BODY_BYTES] = {0};
     char time[TIME_MOST] = "";
-    int read = open_body(ends, record, body) == RASPPUCE_OK
+    int read = open_body(ends, record, RECORD_BYTES, body) == RASPPUCE_OK
             && read_time(body, time) == RASPPUCE_OK;
     end_line(printf("%s \"%s\"", what, time), read && strcmp(time, expected) == 0);
 }
 
 /* The receiver has to refuse a record. Says whether it stays as it was then and gives nothing. */
-static int show_refusal(both_ends *ends, const uint8_t record[RECORD_BYTES], const char *what,
+static int show_refusal(both_ends *ends, const uint8_t *record, size_t len, const char *what,
                         uint32_t expected, const char *why)
 {
     static const uint8_t nothing[BODY_BYTES];
     uint8_t opened[BODY_BYTES] = {0};
     uint8_t before[RASPPUCE_RECEIVER_BYTES];
     memcpy(before, ends->receiver, sizeof before);
-    uint32_t answer = open_body(ends, record, opened);
+    uint32_t answer = open_body(ends, record, len, opened);
     end_refused(printf("%s", what), answer, expected, why);
     return answer == expected && memcmp(before, ends->receiver, sizeof before) == 0
         && memcmp(opened, nothing, sizeof nothing) == 0;
 }
 
-/* Seals our mark on the other link; says whether that link's own receiver opens it. */
-static int seal_other(uint8_t record[RECORD_BYTES])
+/* Seals our mark plainly for the other link. */
+static uint32_t seal_other(const both_ends *ends, uint32_t wide, const uint8_t body[BODY_BYTES],
+                           uint8_t record[WIDE_RECORD_BYTES])
+{
+    return rasppuce_seal_plain(ends->keys, sizeof ends->keys, OTHER_LINK, wide, other_sequence,
+                               body, BODY_BYTES, record, WIDE_RECORD_BYTES);
+}
+
+/* The same; says whether that link's own receiver opens it, and whether it has to be a wide one. */
+static int other_right(uint8_t record[WIDE_RECORD_BYTES])
 {
     both_ends ends = {0};
     uint8_t body[BODY_BYTES] = {0}, opened[BODY_BYTES] = {0};
-    return key_both(&ends, OTHER_LINK) && seal_next(&ends, &our_mark, body, record)
-        && open_body(&ends, record, opened) == RASPPUCE_OK
+    return key_both(&ends, OTHER_LINK, RASPPUCE_WIDE) && write_mark(&our_mark, body) == RASPPUCE_OK
+        && seal_other(&ends, RASPPUCE_NARROW, body, record) == RASPPUCE_SEQUENCE
+        && seal_other(&ends, RASPPUCE_WIDE, body, record) == RASPPUCE_OK
+        && open_body(&ends, record, WIDE_RECORD_BYTES, opened) == RASPPUCE_OK
         && memcmp(opened, body, sizeof body) == 0;
+}
+
+/* The numbers of its record: the sequence number has 8 bytes. */
+static void show_wide(const uint8_t record[WIDE_RECORD_BYTES], int right)
+{
+    uint64_t sequence = (uint64_t)read_number(record + NUMBER_AT) << 32
+                      | read_number(record + NUMBER_AT + 4);
+    int used = printf("  numbers ") + print_hex(record, WIDE_TEXT_AT);
+    used += printf("%*slink; sequence number", WHAT_AT - used, "");
+    end_line(used, right && read_number(record) == OTHER_LINK && sequence == other_sequence);
 }
 
 /* The sender seals the records behind the first one. */
@@ -187,19 +211,21 @@ static void show_order(both_ends *ends, uint8_t later[LATER][RECORD_BYTES])
 /* Three records that the receiver has to refuse, and record 4, which it has to open. */
 static void show_refusals(both_ends *ends, uint8_t later[LATER][RECORD_BYTES])
 {
-    uint8_t damaged[RECORD_BYTES], other[RECORD_BYTES] = {0};
-    expect(seal_other(other), "link 8 does not open its own record.");
+    uint8_t damaged[RECORD_BYTES], other[WIDE_RECORD_BYTES] = {0};
+    int right = other_right(other);
     memcpy(damaged, later[FOURTH], sizeof damaged);
     damaged[TEXT_AT] ^= 1;
 
-    int kept = show_refusal(ends, later[SECOND], "6 Record 2 again", RASPPUCE_REPEATED,
+    int kept = show_refusal(ends, later[SECOND], RECORD_BYTES, "6 Record 2 again", RASPPUCE_REPEATED,
                             "an old record, sent once more (a replay), must not count again.");
-    kept &= show_refusal(ends, damaged, "7 Record 4, damaged", RASPPUCE_TAG,
+    kept &= show_refusal(ends, damaged, RECORD_BYTES, "7 Record 4, damaged", RASPPUCE_TAG,
                          "one bit of its text was flipped on the way; the tag shows it.");
-    kept &= show_refusal(ends, other, "8 A record of link 8", RASPPUCE_OTHER_LINK,
-                         "the receiver of link 8 opens it, the one of link 7 must not.");
-    end_line(printf("  Each time the receiver gave out nothing and stayed as it was"), kept);
-    show_opening(ends, later[FOURTH], "9 So record 4, undamaged, still opens:",
+    kept &= show_refusal(ends, other, WIDE_RECORD_BYTES, "8 Record 4294967296 of link 8",
+                         RASPPUCE_OTHER_LINK,
+                         "only link 8 opens it, which is wide: numbers of 8 bytes, not 4.");
+    show_wide(other, right);
+    expect(kept, "link 7 gave something out, or did not stay as it was.");
+    show_opening(ends, later[FOURTH], "9 Link 7 stayed as it was; record 4 opens:",
                  later_marks[FOURTH].time);
 }
 

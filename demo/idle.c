@@ -8,13 +8,13 @@
 #define ANSWER RASPPUCE_OK
 #endif
 
-uint32_t rasppuce_key_sender(uint8_t *link, size_t link_len, uint32_t number,
+uint32_t rasppuce_key_sender(uint8_t *link, size_t link_len, uint32_t number, uint32_t wide,
                              const uint8_t *keys, size_t keys_len)
 {
     return ANSWER;
 }
 
-uint32_t rasppuce_key_receiver(uint8_t *link, size_t link_len, uint32_t number,
+uint32_t rasppuce_key_receiver(uint8_t *link, size_t link_len, uint32_t number, uint32_t wide,
                                const uint8_t *keys, size_t keys_len)
 {
     return ANSWER;
@@ -37,7 +37,7 @@ uint32_t rasppuce_open(uint8_t *link, size_t link_len,
 }
 
 uint32_t rasppuce_seal_plain(const uint8_t *keys, size_t keys_len,
-                             uint32_t number, uint32_t sequence,
+                             uint32_t number, uint32_t wide, uint64_t sequence,
                              const uint8_t *message, size_t message_len,
                              uint8_t *record, size_t record_len)
 {

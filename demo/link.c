@@ -30,13 +30,13 @@ static void join_keys(both_ends *ends)
     }
 }
 
-int key_both(both_ends *ends, uint32_t number)
+int key_both(both_ends *ends, uint32_t number, uint32_t wide)
 {
     fill(ends->shares, sizeof ends->shares);
     join_keys(ends);
-    return rasppuce_key_sender(ends->sender, sizeof ends->sender, number,
+    return rasppuce_key_sender(ends->sender, sizeof ends->sender, number, wide,
                                ends->shares, sizeof ends->shares) == RASPPUCE_OK
-        && rasppuce_key_receiver(ends->receiver, sizeof ends->receiver, number,
+        && rasppuce_key_receiver(ends->receiver, sizeof ends->receiver, number, wide,
                                  ends->keys, sizeof ends->keys) == RASPPUCE_OK;
 }
 
@@ -47,8 +47,8 @@ uint32_t seal_body(both_ends *ends, const uint8_t body[BODY_BYTES], const uint8_
                          record, RECORD_BYTES, tag_shares, RASPPUCE_SHARES_BYTES);
 }
 
-uint32_t open_body(both_ends *ends, const uint8_t record[RECORD_BYTES], uint8_t body[BODY_BYTES])
+uint32_t open_body(both_ends *ends, const uint8_t *record, size_t record_len, uint8_t body[BODY_BYTES])
 {
-    return rasppuce_open(ends->receiver, sizeof ends->receiver, record, RECORD_BYTES,
+    return rasppuce_open(ends->receiver, sizeof ends->receiver, record, record_len,
                          body, BODY_BYTES);
 }

@@ -114,7 +114,7 @@ static int sealed_right(const sealing *s, uint8_t record[RECORD_BYTES])
     char time[TIME_MOST] = "";
     return seal_body(&ends, s->body, s->tape, record, tag_shares) == RASPPUCE_OK
         && read_number(tag_shares + SHARES * BLOCK) == TAPE_BYTES
-        && open_body(&ends, record, opened) == RASPPUCE_OK
+        && open_body(&ends, record, RECORD_BYTES, opened) == RASPPUCE_OK
         && memcmp(opened, s->body, sizeof opened) == 0
         && read_time(opened, time) == RASPPUCE_OK && strcmp(time, s->mark->time) == 0;
 }
@@ -190,7 +190,7 @@ static int fit(const sealing *ours, sealing *theirs, const uint8_t seen[RASPPUCE
 {
     uint8_t record[RECORD_BYTES] = {0}, unfit[RASPPUCE_LANE_BYTES] = {0};
     memcpy(theirs->tape, ours->tape, sizeof theirs->tape);
-    return key_both(&theirs->ends, LINK)
+    return key_both(&theirs->ends, LINK, RASPPUCE_NARROW)
         && memcmp(key_of(ours), key_of(theirs), BLOCK) != 0
         && report(theirs, CALL, ROUND, LANE, unfit) == RASPPUCE_OK
         && memcmp(seen, unfit, sizeof unfit) != 0
@@ -244,7 +244,7 @@ int main(void)
     sealing ours = {.mark = &our_mark}, theirs = {.mark = &other_mark};
     uint8_t left[RASPPUCE_LANE_BYTES] = {0}, right[RASPPUCE_LANE_BYTES] = {0};
     printf("Could a probe (a device that reads bytes inside the sender) find out its key?\n");
-    expect(key_both(&ours.ends, LINK), "the keys were refused.");
+    expect(key_both(&ours.ends, LINK, RASPPUCE_NARROW), "the keys were refused.");
     expect(write_mark(ours.mark, ours.body) == RASPPUCE_OK
            && write_mark(theirs.mark, theirs.body) == RASPPUCE_OK, "the time marks were refused.");
     fill(ours.tape, sizeof ours.tape);

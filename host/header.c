@@ -9,17 +9,26 @@
 #include <stdio.h>
 #include <string.h>
 
-#if RASPPUCE_RECORD_ADDS != RASPPUCE_NUMBER_BYTES + RASPPUCE_SEQUENCE_BYTES + RASPPUCE_TAG_BYTES
+#if RASPPUCE_NARROW != 0 || RASPPUCE_WIDE == 0
+#error "0 says narrow, and another number wide"
+#endif
+#if RASPPUCE_SEQUENCE_BYTES(0) != 4 || RASPPUCE_SEQUENCE_BYTES(1) != 8 || RASPPUCE_SEQUENCE_BYTES(2) != 8
+#error "a sequence number has 4 bytes if narrow, 8 if wide"
+#endif
+#if RASPPUCE_RECORD_ADDS(0) != 4 + 4 + 16 || RASPPUCE_RECORD_ADDS(1) != 4 + 8 + 16 || RASPPUCE_RECORD_ADDS(2) != 28
 #error "what a record adds is its numbers and its tag"
 #endif
-#if RASPPUCE_RECORD_MOST != RASPPUCE_MESSAGE_MOST + RASPPUCE_RECORD_ADDS
-#error "the longest record has the longest message"
+#if RASPPUCE_RECORD_MOST != RASPPUCE_MESSAGE_MOST + RASPPUCE_RECORD_ADDS(RASPPUCE_WIDE)
+#error "the longest record is a wide one of the longest message"
 #endif
-#if RASPPUCE_SENDER_BYTES != 1 + 4 + 4 + 96
-#error "whether it is keyed, link number, last number, key shares"
+#if RASPPUCE_SEQUENCE_MOST(0) != 0xffffffff || RASPPUCE_SEQUENCE_MOST(1) != 0xffffffffffffffff
+#error "the last number has all bits set, 32 if narrow and 64 if wide"
 #endif
-#if RASPPUCE_RECEIVER_BYTES != 1 + 4 + 4 + 32 + 8
-#error "whether it is keyed, link number, highest number, keys, window"
+#if RASPPUCE_SENDER_BYTES != 1 + 4 + 8 + 96 + 1
+#error "whether it is keyed, link number, last number, key shares, width"
+#endif
+#if RASPPUCE_RECEIVER_BYTES != 1 + 4 + 8 + 32 + 8 + 1
+#error "whether it is keyed, link number, highest number, keys, window, width"
 #endif
 #if RASPPUCE_WINDOW != 64
 #error "a bit of the window's 8 bytes for each number"
@@ -75,6 +84,23 @@ static void versions(void)
     check(strcmp(text, RASPPUCE_VERSION) == 0, "the version's text");
 }
 
+/* For any number that says a width, not only where the preprocessor sees it; each is looked at once. */
+static void widths(void)
+{
+    static const uint32_t told[] = {0, 1, 2, 256, 0x80000000, UINT32_MAX};
+    for (size_t i = 0; i < sizeof told / sizeof told[0]; i++) {
+        const uint32_t *at = told + i;
+        int is_wide = i > 0;
+        check(RASPPUCE_SEQUENCE_BYTES(*at++) == (is_wide ? 8 : 4) && at == told + i + 1,
+              "the bytes of a sequence number");
+        at = told + i;
+        check(RASPPUCE_RECORD_ADDS(*at++) == (is_wide ? 28 : 24) && at == told + i + 1, "what a record adds");
+        at = told + i;
+        uint64_t last = RASPPUCE_SEQUENCE_MOST(*at++);
+        check(last == (is_wide ? UINT64_MAX : UINT32_MAX) && at == told + i + 1, "the last sequence number");
+    }
+}
+
 /* What a mark's values stay within, in the types of the call that writes a body; sizes of arrays. */
 static void limits(void)
 {
@@ -82,9 +108,10 @@ static void limits(void)
     uint32_t fraction = RASPPUCE_FRACTION_END - 1;
     int32_t least = RASPPUCE_OFFSET_LEAST, most = RASPPUCE_OFFSET_MOST;
     static const uint8_t body[RASPPUCE_BODY_BYTES(1)] = {0}, values[RASPPUCE_VALUES_BYTES] = {0};
+    static const uint8_t record[sizeof body + RASPPUCE_RECORD_ADDS(RASPPUCE_WIDE)] = {0};
     check(seconds >> 55 == 1 && fraction >> 27 == 1, "the last second and the last fraction");
     check(least < 0 && most > 0, "offsets to both sides");
-    check(sizeof body == 16 && sizeof values == 17, "a body and its values");
+    check(sizeof body == 16 && sizeof values == 17 && sizeof record == 44, "a body, its values and its record");
 }
 
 /* A wipe clears the bytes lent and no other. */
@@ -101,7 +128,7 @@ static void wipes(void)
 void ignored(uint8_t *link, const uint8_t *keys);
 void ignored(uint8_t *link, const uint8_t *keys)
 {
-    rasppuce_key_sender(link, RASPPUCE_SENDER_BYTES, 1, keys, RASPPUCE_SENDER_KEY_BYTES);
+    rasppuce_key_sender(link, RASPPUCE_SENDER_BYTES, 1, RASPPUCE_WIDE, keys, RASPPUCE_SENDER_KEY_BYTES);
 }
 #endif
 
@@ -109,6 +136,7 @@ int main(void)
 {
     meanings();
     versions();
+    widths();
     limits();
     wipes();
     return end_checks();

@@ -1,7 +1,7 @@
 /*
- * A rack's host in C: keys a pair of links, seals by shares and plainly, opens in turn and out of it,
- * writes and reads bodies, and meets every refusal. It checks all that it sees; the exit status is 1 if
- * anything surprised it.
+ * A rack's host in C: keys a pair of links, narrow and then wide, seals by shares and plainly, opens in
+ * turn and out of it, writes and reads bodies, and meets every refusal. It checks all that it sees; the
+ * exit status is 1 if anything surprised it.
  *
  *     host                      does all that three times: with every slice before a page that can't
  *                               be touched, with every slice after one, and at odd addresses
@@ -132,6 +132,12 @@ static uint64_t word_at(const uint8_t *bytes)
     return (uint64_t)number_at(bytes) << 32 | number_at(bytes + 4);
 }
 
+static void put_word(uint8_t *bytes, uint64_t word)
+{
+    put_number(bytes, (uint32_t)(word >> 32));
+    put_number(bytes + 4, (uint32_t)word);
+}
+
 /* XORs a block into another. */
 static void add(uint8_t *to, const uint8_t *what)
 {
@@ -151,11 +157,55 @@ static void join(uint8_t *block, const uint8_t *shares, size_t apart)
 
 enum { LINK = 7 }; /* the link's number */
 
-/* Places in a link; a sender has no window. */
-enum { NUMBER_AT = 1, LAST_AT = 5, KEYS_AT = 9, WINDOW_AT = 41 };
+static uint32_t wide; /* the width of links and records, as it is told */
 
-/* Where the sequence number stands in a record, and the ciphertext. */
-enum { SEQUENCE_AT = RASPPUCE_NUMBER_BYTES, TEXT_AT = SEQUENCE_AT + RASPPUCE_SEQUENCE_BYTES };
+/* Places in a link, whose last byte is its width; a sender has no window. */
+enum { NUMBER_AT = 1, LAST_AT = 5, KEYS_AT = 13, WINDOW_AT = 45 };
+
+static uint64_t last_of(const slice *link)
+{
+    return word_at(link->at + LAST_AT);
+}
+
+static uint8_t *width_of(const slice *link)
+{
+    return link->at + link->len - 1;
+}
+
+/* ---- records of this width */
+
+enum { SEQUENCE_AT = RASPPUCE_NUMBER_BYTES };
+
+static size_t record_len_for(size_t message_len)
+{
+    return message_len + RASPPUCE_RECORD_ADDS(wide);
+}
+
+static const uint8_t *text_in(const uint8_t *bytes)
+{
+    return bytes + SEQUENCE_AT + RASPPUCE_SEQUENCE_BYTES(wide);
+}
+
+static uint64_t sequence_in(const uint8_t *bytes)
+{
+    return wide ? word_at(bytes + SEQUENCE_AT) : number_at(bytes + SEQUENCE_AT);
+}
+
+static void put_sequence(uint8_t *bytes, uint64_t number)
+{
+    if (wide)
+        put_word(bytes + SEQUENCE_AT, number);
+    else
+        put_number(bytes + SEQUENCE_AT, (uint32_t)number);
+}
+
+/* The last number there is. */
+static uint64_t most(void)
+{
+    return RASPPUCE_SEQUENCE_MOST(wide);
+}
+
+/* ---- what is lent */
 
 static slice keys;           /* KE, then KM */
 static slice key_shares;     /* three shares of KE, then three of KM */
@@ -196,10 +246,10 @@ static void set_up(void)
 /* ---- the numbers that a receiver has accepted, as the host keeps them, and what follows from them */
 
 enum { MOST_ACCEPTED = 512 };
-static uint32_t accepted[MOST_ACCEPTED];
+static uint64_t accepted[MOST_ACCEPTED];
 static unsigned accepted_count;
 
-static void accept(uint32_t number)
+static void accept(uint64_t number)
 {
     if (accepted_count == MOST_ACCEPTED) {
         printf("no room for the numbers accepted\n");
@@ -208,7 +258,7 @@ static void accept(uint32_t number)
     accepted[accepted_count++] = number;
 }
 
-static int was_accepted(uint32_t number)
+static int was_accepted(uint64_t number)
 {
     for (unsigned i = 0; i < accepted_count; i++)
         if (accepted[i] == number)
@@ -216,9 +266,9 @@ static int was_accepted(uint32_t number)
     return 0;
 }
 
-static uint32_t highest_accepted(void)
+static uint64_t highest_accepted(void)
 {
-    uint32_t highest = 0;
+    uint64_t highest = 0;
     for (unsigned i = 0; i < accepted_count; i++)
         if (accepted[i] > highest)
             highest = accepted[i];
@@ -228,26 +278,28 @@ static uint32_t highest_accepted(void)
 /* Bit k is for the number k below the highest; numbers begin with 1. */
 static uint64_t window_of_accepted(void)
 {
-    uint64_t word = 0;
-    uint32_t highest = highest_accepted();
-    for (uint32_t k = 0; k < RASPPUCE_WINDOW && k < highest; k++)
+    uint64_t word = 0, highest = highest_accepted();
+    for (unsigned k = 0; k < RASPPUCE_WINDOW && k < highest; k++)
         word |= (uint64_t)was_accepted(highest - k) << k;
     return word;
 }
 
 /* The answer to a sound record of this number. */
-static uint32_t answer_to(uint32_t number)
+static uint32_t answer_to(uint64_t number)
 {
-    if (number == 0 || (uint64_t)number + RASPPUCE_WINDOW <= highest_accepted())
+    uint64_t highest = highest_accepted();
+    if (number == 0 || (number < highest && highest - number >= RASPPUCE_WINDOW))
         return RASPPUCE_BELOW_WINDOW;
     return was_accepted(number) ? RASPPUCE_REPEATED : RASPPUCE_OK;
 }
 
-/* The link has these numbers and no other. */
+/* The link has these numbers and no other, and is what it was when `save` was called in all else. */
 static int window_right(const slice *link)
 {
-    return number_at(link->at + LAST_AT) == highest_accepted()
-        && word_at(link->at + WINDOW_AT) == window_of_accepted();
+    return last_of(link) == highest_accepted() && word_at(link->at + WINDOW_AT) == window_of_accepted()
+        && memcmp(link->at, link->saved, LAST_AT) == 0
+        && memcmp(link->at + KEYS_AT, link->saved + KEYS_AT, WINDOW_AT - KEYS_AT) == 0
+        && *width_of(link) == link->saved[link->len - 1];
 }
 
 /* ---- keying */
@@ -256,22 +308,26 @@ static int window_right(const slice *link)
 static void key_receiver(slice *link, uint32_t number)
 {
     mark(link);
-    check(rasppuce_key_receiver(LEND(*link), number, LEND(keys)) == RASPPUCE_OK, "keying a receiver");
+    check(rasppuce_key_receiver(LEND(*link), number, wide, LEND(keys)) == RASPPUCE_OK, "keying a receiver");
     check(link->at[0] == 1 && number_at(link->at + NUMBER_AT) == number
           && memcmp(link->at + KEYS_AT, keys.at, keys.len) == 0, "a keyed receiver has its number and its keys");
-    check(number_at(link->at + LAST_AT) == 0 && word_at(link->at + WINDOW_AT) == 0,
-          "and has accepted no number");
+    check(last_of(link) == 0 && word_at(link->at + WINDOW_AT) == 0, "and has accepted no number");
+    check(*width_of(link) == (wide != 0), "and its width is 0 or 1");
 }
 
-/* Keys the sender with three shares of each key and both receivers with the joined keys. */
+/* Keys the sender, whatever stands in it, with three shares of each key and both receivers with the joined
+ * keys. */
 static void key_links(void)
 {
     fill(&key_shares);
     join(keys.at, key_shares.at, 16);
     join(keys.at + 16, key_shares.at + 48, 16);
-    check(rasppuce_key_sender(LEND(sender), LINK, LEND(key_shares)) == RASPPUCE_OK, "keying the sender");
-    check(sender.at[0] == 1 && number_at(sender.at + NUMBER_AT) == LINK && number_at(sender.at + LAST_AT) == 0,
+    mark(&sender);
+    check(rasppuce_key_sender(LEND(sender), LINK, wide, LEND(key_shares)) == RASPPUCE_OK, "keying the sender");
+    check(sender.at[0] == 1 && number_at(sender.at + NUMBER_AT) == LINK && last_of(&sender) == 0,
           "a keyed sender has its number, and 0 as the last one");
+    check(memcmp(sender.at + KEYS_AT, key_shares.at, key_shares.len) == 0 && *width_of(&sender) == (wide != 0),
+          "and its key shares, and its width is 0 or 1");
     key_receiver(&receiver, LINK);
     key_receiver(&plain_receiver, LINK);
     accepted_count = 0;
@@ -301,18 +357,21 @@ static void fit_marked(slice *s, size_t len)
 /* One message by shares and plainly: the same record, and both receivers open it. */
 static void send(size_t len)
 {
-    uint32_t sequence = number_at(sender.at + LAST_AT) + 1;
-    size_t record_len = len + RASPPUCE_RECORD_ADDS;
+    uint64_t sequence = last_of(&sender) + 1;
+    size_t record_len = record_len_for(len);
     prepare(len);
 
     fit_marked(&record, record_len + SPARE);
     fill(&tag_shares);
+    save();
     uint32_t answer = rasppuce_seal(LEND(sender), LEND(message), LEND(tape), LEND(record), LEND(tag_shares));
     check(answer == RASPPUCE_OK, "sealing by shares");
     check(untouched(&record, record_len), "nothing is written past the record");
     fit(&record, record_len);
-    check(number_at(sender.at + LAST_AT) == sequence, "the sender's last number goes up by one");
-    check(number_at(record.at) == LINK && number_at(record.at + SEQUENCE_AT) == sequence,
+    check(last_of(&sender) == sequence, "the sender's last number goes up by one");
+    put_word(sender.saved + LAST_AT, sequence);
+    check(memcmp(sender.at, sender.saved, sender.len) == 0, "nothing else in the sender changes");
+    check(number_at(record.at) == LINK && sequence_in(record.at) == sequence,
           "a record begins with link number and sequence number");
     uint8_t tag[16];
     join(tag, tag_shares.at, 16);
@@ -321,7 +380,7 @@ static void send(size_t len)
     check(number_at(tag_shares.at + 48) == RASPPUCE_TAPE_BYTES(len), "the tape count is the need");
 
     fit_marked(&plain_record, record_len);
-    answer = rasppuce_seal_plain(LEND(keys), LINK, sequence, LEND(message), LEND(plain_record));
+    answer = rasppuce_seal_plain(LEND(keys), LINK, wide, sequence, LEND(message), LEND(plain_record));
     check(answer == RASPPUCE_OK, "sealing plainly");
     check(memcmp(record.at, plain_record.at, record_len) == 0, "both sealings give the same record");
 
@@ -335,8 +394,29 @@ static void send(size_t len)
     accept(sequence);
     check(window_right(&receiver) && memcmp(receiver.at, plain_receiver.at, receiver.len) == 0,
           "both receivers have accepted this number");
-    printf("  message of %3lu bytes, number %lu: one record of %lu bytes, opened on both links\n",
-           (unsigned long)len, (unsigned long)sequence, (unsigned long)record_len);
+    printf("  message of %3lu bytes, number %llu: one record of %lu bytes, opened on both links\n",
+           (unsigned long)len, (unsigned long long)sequence, (unsigned long)record_len);
+}
+
+/* The sender as it is when all numbers up to this one are used. */
+static void use_up_to(uint64_t last)
+{
+    put_word(sender.at + LAST_AT, last);
+}
+
+/* Messages of several lengths, and then under numbers far apart. */
+static void send_all(void)
+{
+    static const size_t lengths[] = {0, 1, 8, 15, 16, 17, 32, 255, 256};
+    static const uint64_t lasts[] = {0x01234566, UINT32_MAX - 1, UINT32_MAX, UINT32_MAX + (uint64_t)1,
+                                     0x0123456789abcdee, UINT64_MAX - 1};
+    for (size_t i = 0; i < sizeof lengths / sizeof lengths[0]; i++)
+        send(lengths[i]);
+    for (size_t i = 0; i < sizeof lasts / sizeof lasts[0] && lasts[i] < most(); i++) {
+        use_up_to(lasts[i]);
+        send(24);
+    }
+    check(last_of(&sender) == most(), "the last number there is was used");
 }
 
 /* ---- records that arrive out of turn */
@@ -345,26 +425,21 @@ enum { SHORT = 8 }; /* the length of their messages */
 
 /* A record, and the message in it. */
 typedef struct {
-    uint8_t message[SHORT], record[SHORT + RASPPUCE_RECORD_ADDS];
+    uint8_t message[SHORT], record[SHORT + RASPPUCE_RECORD_ADDS(RASPPUCE_WIDE)];
 } kept_record;
-
-static uint32_t sequence_of(const kept_record *k)
-{
-    return number_at(k->record + SEQUENCE_AT);
-}
 
 /* What was sealed: the message, and this record. */
 static void keep(kept_record *k, const slice *sealed)
 {
     memcpy(k->message, message.at, SHORT);
-    memcpy(k->record, sealed->at, sizeof k->record);
+    memcpy(k->record, sealed->at, sealed->len);
 }
 
 /* A record sealed by shares, under the sender's next number. */
 static void keep_next(kept_record *k)
 {
     prepare(SHORT);
-    fit(&record, sizeof k->record);
+    fit(&record, record_len_for(SHORT));
     check(rasppuce_seal(LEND(sender), LEND(message), LEND(tape), LEND(record), LEND(tag_shares)) == RASPPUCE_OK,
           "sealing by shares");
     keep(k, &record);
@@ -373,24 +448,23 @@ static void keep_next(kept_record *k)
 enum { CHOSEN_LINK = LINK + 1 }; /* a link of its own for records of chosen numbers */
 
 /* The record of a number: the same one each time. None is sealed under 0, so that is put in by hand. */
-static void keep_chosen(kept_record *k, uint32_t number)
+static void keep_chosen(kept_record *k, uint64_t number)
 {
-    uint32_t sealed = number == 0 ? 1 : number;
+    uint64_t sealed = number == 0 ? 1 : number;
     fit(&message, SHORT);
-    put_number(message.at, sealed);
-    put_number(message.at + 4, ~sealed);
-    fit(&plain_record, sizeof k->record);
-    check(rasppuce_seal_plain(LEND(keys), CHOSEN_LINK, sealed, LEND(message), LEND(plain_record)) == RASPPUCE_OK,
+    put_word(message.at, ~sealed);
+    fit(&plain_record, record_len_for(SHORT));
+    check(rasppuce_seal_plain(LEND(keys), CHOSEN_LINK, wide, sealed, LEND(message), LEND(plain_record)) == RASPPUCE_OK,
           "sealing plainly");
-    put_number(plain_record.at + SEQUENCE_AT, number);
+    put_sequence(plain_record.at, number);
     keep(k, &plain_record);
 }
 
 /* Puts a kept record where it is to be opened. */
 static void lend_record(const kept_record *k)
 {
-    fit(&record, sizeof k->record);
-    memcpy(record.at, k->record, sizeof k->record);
+    fit(&record, record_len_for(SHORT));
+    memcpy(record.at, k->record, record.len);
     fit_marked(&opened, SHORT);
     save();
 }
@@ -398,13 +472,14 @@ static void lend_record(const kept_record *k)
 /* A kept record arrives: it is answered, and the link then is, as the numbers accepted before say. */
 static uint32_t arrive(slice *link, const kept_record *k)
 {
-    uint32_t expected = answer_to(sequence_of(k));
+    uint64_t number = sequence_in(k->record);
+    uint32_t expected = answer_to(number);
     lend_record(k);
     uint32_t answer = rasppuce_open(LEND(*link), LEND(record), LEND(opened));
     check(answer == expected, "a number is admitted if it is above the window, or in it and new");
     if (answer == RASPPUCE_OK) {
         check(memcmp(opened.at, k->message, SHORT) == 0, "the message sealed under this number");
-        accept(sequence_of(k));
+        accept(number);
     } else {
         check(all_as_saved(), "a refusal leaves every byte as it was");
     }
@@ -420,31 +495,36 @@ static void key_chosen(void)
 }
 
 /* The record of a chosen number arrives there. */
-static uint32_t arrive_chosen(uint32_t number)
+static uint32_t arrive_chosen(uint64_t number)
 {
     kept_record k;
     keep_chosen(&k, number);
     return arrive(&plain_receiver, &k);
 }
 
-/* A run of records sealed by shares that arrive in another order: each is opened once. */
-static void shuffled_run(void)
+enum { RUN = 6 };
+
+/* A run of records sealed by shares, behind this number, that arrive in another order: each is opened once. */
+static void shuffled_run(uint64_t last)
 {
-    static const unsigned order[] = {2, 0, 5, 1, 4, 3};
-    enum { RUN = sizeof order / sizeof order[0] };
+    static const unsigned order[RUN] = {2, 0, 5, 1, 4, 3};
     kept_record run[RUN];
+    use_up_to(last);
     for (unsigned i = 0; i < RUN; i++)
         keep_next(&run[i]);
+    check(sequence_in(run[0].record) == last + 1 && last_of(&sender) == last + RUN, "the numbers of a run");
     for (unsigned i = 0; i < RUN; i++)
         check(arrive(&receiver, &run[order[i]]) == RASPPUCE_OK, "a record out of turn is opened");
     for (unsigned i = 0; i < RUN; i++)
         check(arrive(&receiver, &run[i]) == RASPPUCE_REPEATED, "and is refused the second time");
-    printf("  %u records sealed by shares: opened in another order, each once\n", RUN);
+    printf("  %u records sealed by shares, %llu and on: opened in another order, each once\n", RUN,
+           (unsigned long long)last + 1);
 }
 
 /* Numbers in the order of their arrival at a new link, and the answer to each. */
 typedef struct {
-    uint32_t number, answer;
+    uint64_t number;
+    uint32_t answer;
     const char *how;
 } arrival;
 
@@ -453,7 +533,7 @@ static const arrival arrivals[] = {
     {2, RASPPUCE_OK, "the first to arrive"},
     {0, RASPPUCE_BELOW_WINDOW, "0, two below"},
     {1, RASPPUCE_OK, "one below"},
-    {64, RASPPUCE_OK, "the window has 1 to 64 now"},
+    {64, RASPPUCE_OK, "the window has 1 to 64"},
     {1, RASPPUCE_REPEATED, "63 below, again"},
     {65, RASPPUCE_OK, "the next one up"},
     {1, RASPPUCE_BELOW_WINDOW, "64 below, accepted before"},
@@ -469,48 +549,95 @@ static const arrival arrivals[] = {
     {257, RASPPUCE_OK, "65 up: none stays"},
     {193, RASPPUCE_BELOW_WINDOW, "64 below, never accepted"},
     {194, RASPPUCE_OK, "63 below"},
-    {4294967295u, RASPPUCE_OK, "the last number"},
-    {4294967232u, RASPPUCE_OK, "63 below"},
-    {4294967231u, RASPPUCE_BELOW_WINDOW, "64 below, never accepted"},
-    {4294967295u, RASPPUCE_REPEATED, "the last number, again"},
+    {4294967295, RASPPUCE_OK, "the last number of 32 bits"},
+    {4294967232, RASPPUCE_OK, "63 below"},
+    {4294967231, RASPPUCE_BELOW_WINDOW, "64 below, never accepted"},
+    {4294967295, RASPPUCE_REPEATED, "the last number of 32 bits, again"},
+    {1, RASPPUCE_BELOW_WINDOW, "there is no way round to 1"},
+    {4294967297, RASPPUCE_OK, "two up: 2^32 + 1"},
+    {4294967295, RASPPUCE_REPEATED, "two below, again"},
+    {4294967296, RASPPUCE_OK, "2^32, one below"},
+    {4294967234, RASPPUCE_OK, "63 below"},
+    {4294967233, RASPPUCE_BELOW_WINDOW, "64 below, never accepted"},
+    {1, RASPPUCE_BELOW_WINDOW, "2^32 below"},
+    {4294967358, RASPPUCE_OK, "61 up: the window has 2^32 - 1 and on"},
+    {4294967295, RASPPUCE_REPEATED, "63 below, again"},
+    {4294967359, RASPPUCE_OK, "the next one up"},
+    {4294967295, RASPPUCE_BELOW_WINDOW, "64 below, accepted before"},
+    {8589934655, RASPPUCE_OK, "2^32 up: none stays"},
+    {4294967359, RASPPUCE_BELOW_WINDOW, "2^32 below, accepted before"},
+    {18446744073709551552u, RASPPUCE_OK, "63 below the last number"},
+    {18446744073709551615u, RASPPUCE_OK, "the last number"},
+    {18446744073709551552u, RASPPUCE_REPEATED, "63 below, again"},
+    {18446744073709551551u, RASPPUCE_BELOW_WINDOW, "64 below, never accepted"},
+    {18446744073709551553u, RASPPUCE_OK, "62 below"},
+    {18446744073709551615u, RASPPUCE_REPEATED, "the last number, again"},
+    {4294967295, RASPPUCE_BELOW_WINDOW, "its lower half"},
     {1, RASPPUCE_BELOW_WINDOW, "there is no way round to 1"},
 };
 
+/* On a narrow link only the first ones, up to its last number. */
 static void chosen_numbers(void)
 {
     key_chosen();
     for (size_t i = 0; i < sizeof arrivals / sizeof arrivals[0]; i++) {
         const arrival *a = &arrivals[i];
+        if (a->number > most())
+            break;
         uint32_t answer = arrive_chosen(a->number);
         check(answer == a->answer, a->how);
-        printf("  number %10lu: %2lu, window %016llx  %s\n", (unsigned long)a->number, (unsigned long)answer,
+        printf("  number %20llu: %2lu, window %016llx  %s\n", (unsigned long long)a->number, (unsigned long)answer,
                (unsigned long long)word_at(plain_receiver.at + WINDOW_AT), a->how);
     }
 }
 
-/* Numbers from 80 below the highest to 15 above it. */
-static void random_numbers(void)
+/* A number from 80 below the highest to 15 above it, but none past the last. */
+static uint64_t random_near(uint64_t highest)
 {
-    enum { ARRIVALS = 400, BELOW = 80, ABOVE = 15 };
+    enum { BELOW = 80, ABOVE = 15 };
+    fill(&block);
+    uint32_t step = number_at(block.at) % (BELOW + ABOVE + 1);
+    if (step < BELOW)
+        return highest < BELOW - step ? 0 : highest - (BELOW - step);
+    return most() - highest < step - BELOW ? most() : highest + (step - BELOW);
+}
+
+/* Such numbers, behind a first one; 0 for none. */
+static void random_numbers(uint64_t first)
+{
+    enum { ARRIVALS = 400 };
     unsigned new_ones = 0, repeated = 0;
     key_chosen();
+    if (first > 0)
+        check(arrive_chosen(first) == RASPPUCE_OK, "the first number is opened");
     for (int i = 0; i < ARRIVALS; i++) {
-        fill(&block);
-        uint32_t number = highest_accepted() + number_at(block.at) % (BELOW + ABOVE + 1);
-        uint32_t answer = arrive_chosen(number < BELOW ? 0 : number - BELOW);
+        uint32_t answer = arrive_chosen(random_near(highest_accepted()));
         new_ones += answer == RASPPUCE_OK;
         repeated += answer == RASPPUCE_REPEATED;
     }
     unsigned below = ARRIVALS - new_ones - repeated;
     check(new_ones > 50 && repeated > 50 && below > 50, "many answers of each kind");
-    printf("  %d random numbers: %u opened, %u repeated, %u below the window\n", ARRIVALS, new_ones, repeated, below);
+    printf("  %d random numbers, %llu to %llu: %u opened, %u repeated, %u below the window\n", ARRIVALS,
+           (unsigned long long)first, (unsigned long long)highest_accepted(), new_ones, repeated, below);
 }
 
+/* From the first number on, across 2^32, and up to the last one. */
 static void out_of_turn(void)
 {
-    shuffled_run();
+    key_links();
+    shuffled_run(0);
     chosen_numbers();
-    random_numbers();
+    random_numbers(0);
+    if (most() > UINT32_MAX) {
+        key_links();
+        shuffled_run(UINT32_MAX - RUN / 2);
+        random_numbers(UINT32_MAX - 150);
+        check(highest_accepted() > UINT32_MAX, "numbers on both sides of 2^32");
+    }
+    key_links();
+    shuffled_run(most() - RUN);
+    random_numbers(most() - 150);
+    check(highest_accepted() == most(), "numbers up to the last one");
 }
 
 /* ---- reports and blocks */
@@ -596,33 +723,59 @@ static void last_masks(uint32_t call, const lanes *masked)
     }
 }
 
-/* The outputs of all calls, for a new message; then the sealing that was shown. */
-static void report_outputs(size_t len)
+/* The input that `show_output` leaves in `block` is the next sealing's counter block of this index. */
+static void check_counter(uint32_t index)
+{
+    uint8_t counter[16];
+    put_number(counter, LINK);
+    put_word(counter + 4, last_of(&sender) + 1);
+    put_number(counter + 12, index);
+    check(memcmp(block.at, counter, 16) == 0, "a counter block has link number, sequence number in 8 bytes, index");
+}
+
+/* The outputs of all calls, for a new message under the number behind this one; then the sealing shown. */
+static void report_outputs(size_t len, uint64_t last)
 {
     const uint32_t calls = RASPPUCE_CALLS(len), count = calls / 2 - 1; /* as many make the key stream */
     uint8_t stream[RASPPUCE_MESSAGE_MOST], tag[16];
     lanes output;
     prepare(len);
+    use_up_to(last);
     for (uint32_t call = 1; call <= calls; call++) {
         output = show_output(call, call <= count ? keys.at : keys.at + 16);
-        if (call <= count)
+        if (call <= count) {
             join(stream + 16 * (call - 1), output.at, RASPPUCE_LANE_BYTES);
+            check_counter(call - 1);
+        } else if (call == count + 2 && count > 0) {
+            check_counter(0); /* the tag's first call */
+        }
     }
     last_masks(calls, &output);
 
-    fit(&record, len + RASPPUCE_RECORD_ADDS);
+    fit(&record, record_len_for(len));
     uint32_t answer = rasppuce_seal(LEND(sender), LEND(message), LEND(tape), LEND(record), LEND(tag_shares));
     check(answer == RASPPUCE_OK, "sealing what was shown");
     for (size_t i = 0; i < len; i++)
         stream[i] ^= message.at[i];
-    check(memcmp(record.at + TEXT_AT, stream, len) == 0, "outputs join to the key stream");
+    check(memcmp(text_in(record.at), stream, len) == 0, "outputs join to the key stream");
     join(tag, output.at, RASPPUCE_LANE_BYTES);
-    check(memcmp(record.at + TEXT_AT + len, tag, 16) == 0, "the last output joins to the tag");
+    check(memcmp(text_in(record.at) + len, tag, 16) == 0, "the last output joins to the tag");
     for (int i = 0; i < 3; i++)
         check(memcmp(tag_shares.at + 16 * i, state_share(&output, i), 16) == 0,
               "the tag shares are the shares of the last output");
-    printf("  outputs of %2lu calls for %3lu bytes: the cipher's, the record's and those of the tag shares\n",
-           (unsigned long)calls, (unsigned long)len);
+    printf("  outputs of %2lu calls for %3lu bytes, number %llu: the cipher's, the record's and those of the tag"
+           " shares\n", (unsigned long)calls, (unsigned long)len, (unsigned long long)last + 1);
+}
+
+static void reports(void)
+{
+    key_links();
+    report(0, 1, 1);
+    report(32, 6, RASPPUCE_LAST_ROUND - 1);
+    report(32, 6, RASPPUCE_LAST_ROUND);
+    report_outputs(0, 0);
+    report_outputs(40, most() - 1);
+    report_outputs(RASPPUCE_MESSAGE_MOST, 0x0123456789abcdef >> (wide ? 0 : 32));
 }
 
 /* Both engines of the block cipher, there and back. */
@@ -733,6 +886,12 @@ static void refused(uint32_t answer, uint32_t expected, const char *how)
         met[answer] = 1;
     check(all_as_saved(), "a refusal leaves every byte as it was");
     printf("  %2lu  %-46s %s\n", (unsigned long)answer, how, rasppuce_meaning(answer));
+}
+
+/* Those of blocks and bodies; the others are of links and plain sealing. */
+static int is_of_no_link(uint32_t number)
+{
+    return number == RASPPUCE_BLOCK || (RASPPUCE_BODY_LENGTH <= number && number <= RASPPUCE_BODY_MISSING);
 }
 
 /* Makes `odd` so long, and saves every slice. */
@@ -851,26 +1010,28 @@ static const no_entry no_entries[] = {
     {164, 1, RASPPUCE_TAG, "64 above, and a wrong tag"},
 };
 
-/* What the window refuses, behind the refusals of another link and of a short output. */
-static void window_refusals(void)
+/* What the window refuses, behind the refusals of another link and of a short output; all numbers but 0 so
+ * many higher. */
+static void window_refusals(uint64_t up)
 {
     kept_record k;
     key_chosen();
-    check(arrive_chosen(37) == RASPPUCE_OK && arrive_chosen(100) == RASPPUCE_OK, "opening 37 and 100");
+    check(arrive_chosen(up + 37) == RASPPUCE_OK && arrive_chosen(up + 100) == RASPPUCE_OK, "opening 37 and 100");
+    printf("      on a link whose highest number is %llu:\n", (unsigned long long)last_of(&plain_receiver));
     for (size_t i = 0; i < sizeof no_entries / sizeof no_entries[0]; i++) {
         const no_entry *n = &no_entries[i];
-        keep_chosen(&k, n->number);
-        k.record[sizeof k.record - 1] ^= (uint8_t)n->damaged;
+        keep_chosen(&k, n->number == 0 ? 0 : up + n->number);
+        k.record[record_len_for(SHORT) - 1] ^= (uint8_t)n->damaged;
         lend_record(&k);
         refused(rasppuce_open(LEND(plain_receiver), LEND(record), LEND(opened)), n->answer, n->how);
         check(rasppuce_open(LEND(plain_receiver), LEND(record), NULL, 0) == RASPPUCE_OUTPUT
               && rasppuce_open(LEND(receiver), LEND(record), NULL, 0) == RASPPUCE_OTHER_LINK,
               "another link and a short output come first");
     }
-    check(arrive_chosen(38) == RASPPUCE_OK, "a wrong tag has not moved the window");
+    check(arrive_chosen(up + 38) == RASPPUCE_OK, "a wrong tag has not moved the window");
 
     /* No call leaves such a window, but on any bytes 0 is refused as such and not as repeated. */
-    put_number(plain_receiver.at + LAST_AT, 5);
+    put_word(plain_receiver.at + LAST_AT, 5);
     memset(plain_receiver.at + WINDOW_AT, 0xff, 8);
     keep_chosen(&k, 0);
     lend_record(&k);
@@ -878,9 +1039,129 @@ static void window_refusals(void)
             "number 0, whose bit is set");
 }
 
-static void refusals(void)
+/* Makes `odd` a link cut or lengthened to so many bytes; gives the words for a log. */
+static const char *odd_link(const slice *link, const char *name, size_t len)
 {
-    const size_t len = 8, record_len = 8 + RASPPUCE_RECORD_ADDS;
+    static char how[64];
+    fit_marked(&odd, len);
+    memcpy(odd.at, link->at, len < link->len ? len : link->len);
+    save();
+    snprintf(how, sizeof how, "%s of %lu bytes", name, (unsigned long)len);
+    return how;
+}
+
+/* Links of other lengths, 105 and 49 among them: keying refuses them as such, and they count as not keyed. */
+static void length_refusals(void)
+{
+    static const size_t senders[] = {0, RASPPUCE_RECEIVER_BYTES, 105, RASPPUCE_SENDER_BYTES - 1,
+                                     RASPPUCE_SENDER_BYTES + 1};
+    static const size_t receivers[] = {0, 41, 49, RASPPUCE_RECEIVER_BYTES - 1, RASPPUCE_RECEIVER_BYTES + 1,
+                                       RASPPUCE_SENDER_BYTES};
+    for (size_t i = 0; i < sizeof senders / sizeof senders[0]; i++) {
+        const char *how = odd_link(&sender, "a sender", senders[i]);
+        refused(rasppuce_key_sender(LEND(odd), LINK, wide, LEND(key_shares)), RASPPUCE_KEYS, how);
+        refused(rasppuce_seal(LEND(odd), LEND(message), LEND(tape), LEND(plain_record), LEND(tag_shares)),
+                RASPPUCE_NOT_KEYED, how);
+        refused(rasppuce_report(LEND(odd), LEND(message), LEND(tape), 1, 1, 0, LEND(lane)), RASPPUCE_NOT_KEYED, how);
+    }
+    for (size_t i = 0; i < sizeof receivers / sizeof receivers[0]; i++) {
+        const char *how = odd_link(&receiver, "a receiver", receivers[i]);
+        refused(rasppuce_key_receiver(LEND(odd), LINK, wide, LEND(keys)), RASPPUCE_KEYS, how);
+        refused(rasppuce_open(LEND(odd), LEND(record), LEND(opened)), RASPPUCE_NOT_KEYED, how);
+    }
+}
+
+/* Numbers that plain sealing refuses, at both widths or only told narrow. */
+typedef struct {
+    uint64_t number;
+    const char *how;
+} no_sequence;
+
+static const no_sequence no_sequences[] = {
+    {0, "sequence number 0"},
+    {UINT32_MAX + (uint64_t)1, "sequence number 4294967296"},
+    {0x0123456700000000, "sequence number 81985526906748928"},
+    {UINT64_MAX, "sequence number 18446744073709551615"},
+};
+
+/* What plain sealing refuses: keys, then the number, then the message, then the output. */
+static void plain_refusals(void)
+{
+    for (size_t i = 0; i < sizeof no_sequences / sizeof no_sequences[0]; i++) {
+        const no_sequence *n = &no_sequences[i];
+        if (0 < n->number && n->number <= most())
+            continue;
+        save_odd(RASPPUCE_MESSAGE_MOST + 1);
+        refused(rasppuce_seal_plain(LEND(keys), LINK, wide, n->number, LEND(message), LEND(plain_record)),
+                RASPPUCE_SEQUENCE, n->how);
+        check(rasppuce_seal_plain(LEND(keys), LINK, wide, n->number, LEND(odd), NULL, 0) == RASPPUCE_SEQUENCE,
+              "the number comes before message and output");
+        check(rasppuce_seal_plain(LEND(key_shares), LINK, wide, n->number, LEND(odd), NULL, 0) == RASPPUCE_KEYS,
+              "keys come before the number");
+    }
+    save_odd(RASPPUCE_MESSAGE_MOST + 1);
+    refused(rasppuce_seal_plain(LEND(keys), LINK, wide, most(), LEND(odd), NULL, 0), RASPPUCE_MESSAGE,
+            "a message of 257 bytes, plainly, and no output");
+    save_odd(record_len_for(message.len) - 1);
+    refused(rasppuce_seal_plain(LEND(keys), LINK, wide, most(), LEND(message), LEND(odd)), RASPPUCE_OUTPUT,
+            "plainly, a record one byte too short");
+}
+
+/* What opening refuses in a record: its length, its link number, a bit changed behind that, the other width. */
+static void record_refusals(void)
+{
+    const size_t adds = RASPPUCE_RECORD_ADDS(wide);
+    save_odd(adds - 1);
+    refused(rasppuce_open(LEND(receiver), LEND(odd), LEND(opened)), RASPPUCE_RECORD,
+            "a record one byte shorter than any");
+    save_odd(adds + RASPPUCE_MESSAGE_MOST + 1);
+    refused(rasppuce_open(LEND(receiver), LEND(odd), LEND(opened)), RASPPUCE_RECORD,
+            "a record one byte longer than any");
+
+    record.at[3] ^= 1;
+    save();
+    refused(rasppuce_open(LEND(receiver), LEND(record), LEND(opened)), RASPPUCE_OTHER_LINK,
+            "a record with another link number");
+    record.at[3] ^= 1;
+
+    for (size_t i = SEQUENCE_AT; i < record.len; i++) {
+        record.at[i] ^= 0x20;
+        save();
+        check(rasppuce_open(LEND(receiver), LEND(record), LEND(opened)) == RASPPUCE_TAG && all_as_saved(),
+              "the tag covers every byte");
+        record.at[i] ^= 0x20;
+    }
+    record.at[record.len - RASPPUCE_TAG_BYTES - 1] ^= 0x20;
+    save();
+    refused(rasppuce_open(LEND(receiver), LEND(record), LEND(opened)), RASPPUCE_TAG,
+            "a record with one bit changed");
+    record.at[record.len - RASPPUCE_TAG_BYTES - 1] ^= 0x20;
+
+    fit(&plain_record, message.len + RASPPUCE_RECORD_ADDS(!wide));
+    check(rasppuce_seal_plain(LEND(keys), LINK, !wide, 1, LEND(message), LEND(plain_record)) == RASPPUCE_OK,
+          "sealing plainly at the other width");
+    fit_marked(&opened, plain_record.len);
+    save();
+    refused(rasppuce_open(LEND(receiver), LEND(plain_record), LEND(opened)),
+            wide ? RASPPUCE_TAG : RASPPUCE_BELOW_WINDOW, "a record of the other width");
+    fit_marked(&opened, message.len);
+}
+
+/* Of the refusals, just those of links and plain sealing were met, or just the others; a short output is of
+ * both. */
+static void check_met(int of_links)
+{
+    for (uint32_t i = 0; i <= LAST_REFUSAL; i++)
+        check(met[i] == (is_refusal(i) && (i == RASPPUCE_OUTPUT || is_of_no_link(i) != of_links)),
+              "every refusal was met, and no other number");
+    memset(met, 0, sizeof met);
+}
+
+/* Every refusal of links and plain sealing. */
+static void link_refusals(void)
+{
+    const size_t len = SHORT, record_len = record_len_for(len);
+    key_links();
 
     /* A record that is still on the way. */
     prepare(len);
@@ -888,32 +1169,25 @@ static void refusals(void)
     check(rasppuce_seal(LEND(sender), LEND(message), LEND(tape), LEND(record), LEND(tag_shares)) == RASPPUCE_OK,
           "sealing once more");
 
-    memset(met, 0, sizeof met);
     fit_marked(&plain_record, record_len);
     fit_marked(&opened, len);
     mark(&tag_shares);
     mark(&lane);
-    mark(&back);
     save();
-    refused(rasppuce_key_sender(LEND(sender), LINK, LEND(keys)), RASPPUCE_KEYS,
+    refused(rasppuce_key_sender(LEND(sender), LINK, wide, LEND(keys)), RASPPUCE_KEYS,
             "keying a sender with 32 bytes");
+    refused(rasppuce_key_receiver(LEND(receiver), LINK, wide, LEND(key_shares)), RASPPUCE_KEYS,
+            "keying a receiver with 96 bytes");
     for (size_t i = 0; i < sizeof no_lanes / sizeof no_lanes[0]; i++) {
         const no_lane *l = &no_lanes[i];
         refused(rasppuce_report(LEND(sender), NULL, 0, LEND(tape), l->call, l->round, l->lane, LEND(lane)), l->answer,
                 l->how);
     }
-    refused(rasppuce_seal_plain(LEND(keys), LINK, 0, LEND(message), LEND(plain_record)), RASPPUCE_SEQUENCE,
-            "sequence number 0");
     refused(rasppuce_seal(LEND(fresh), LEND(message), LEND(tape), LEND(plain_record), LEND(tag_shares)),
             RASPPUCE_NOT_KEYED, "a fresh link, all zeros");
+    length_refusals();
+    plain_refusals();
 
-    save_odd(WINDOW_AT);
-    refused(rasppuce_key_receiver(LEND(odd), LINK, LEND(keys)), RASPPUCE_KEYS,
-            "keying a receiver of 41 bytes");
-    memcpy(odd.at, receiver.at, odd.len);
-    save();
-    refused(rasppuce_open(LEND(odd), LEND(record), LEND(opened)), RASPPUCE_NOT_KEYED,
-            "a receiver without its window");
     save_odd(257);
     refused(rasppuce_seal(LEND(sender), LEND(odd), LEND(tape), LEND(plain_record), LEND(tag_shares)),
             RASPPUCE_MESSAGE, "a message of 257 bytes");
@@ -926,24 +1200,7 @@ static void refusals(void)
     save_odd(51);
     refused(rasppuce_seal(LEND(sender), LEND(message), LEND(tape), LEND(plain_record), LEND(odd)),
             RASPPUCE_OUTPUT, "51 bytes for tag shares and count");
-    save_odd(15);
-    refused(rasppuce_encrypt_table(LEND(key), LEND(odd), LEND(back)), RASPPUCE_BLOCK,
-            "a block of 15 bytes");
-    save_odd(23);
-    refused(rasppuce_open(LEND(receiver), LEND(odd), LEND(opened)), RASPPUCE_RECORD,
-            "a record of 23 bytes");
-
-    record.at[3] ^= 1;
-    save();
-    refused(rasppuce_open(LEND(receiver), LEND(record), LEND(opened)), RASPPUCE_OTHER_LINK,
-            "a record with another link number");
-    record.at[3] ^= 1;
-
-    record.at[10] ^= 0x20;
-    save();
-    refused(rasppuce_open(LEND(receiver), LEND(record), LEND(opened)), RASPPUCE_TAG,
-            "a record with one bit changed");
-    record.at[10] ^= 0x20;
+    record_refusals();
 
     check(rasppuce_open(LEND(receiver), LEND(record), LEND(opened)) == RASPPUCE_OK
           && memcmp(opened.at, message.at, len) == 0, "after all that the record is still accepted");
@@ -951,45 +1208,184 @@ static void refusals(void)
     save();
     refused(rasppuce_open(LEND(receiver), LEND(record), LEND(opened)), RASPPUCE_REPEATED,
             "the same record again");
-    window_refusals();
+    window_refusals(0);
+    if (most() > UINT32_MAX)
+        window_refusals(UINT32_MAX - 63); /* with 2^32 in the window */
+    window_refusals(most() - 164);
 
-    put_number(sender.at + LAST_AT, 4294967295u);
-    save();
+    use_up_to(most());
+    save_odd(257);
     refused(rasppuce_seal(LEND(sender), LEND(message), LEND(tape), LEND(plain_record), LEND(tag_shares)),
-            RASPPUCE_NUMBERS_USED, "a sender whose last number is 4294967295");
+            RASPPUCE_NUMBERS_USED, "a sender that has used its last number");
+    refused(rasppuce_seal(LEND(sender), LEND(odd), LEND(tape), LEND(plain_record), LEND(tag_shares)),
+            RASPPUCE_NUMBERS_USED, "such a sender, and a message of 257 bytes");
+    refused(rasppuce_report(LEND(sender), LEND(odd), LEND(tape), 0, 0, 0, LEND(lane)),
+            RASPPUCE_NUMBERS_USED, "a report of it, and a message of 257 bytes");
+    check_met(1);
+}
 
+/* Those of blocks and bodies. */
+static void other_refusals(void)
+{
+    mark(&back);
+    save_odd(15);
+    refused(rasppuce_encrypt_table(LEND(key), LEND(odd), LEND(back)), RASPPUCE_BLOCK,
+            "a block of 15 bytes");
     read_refusals();
     write_refusals();
-    for (uint32_t i = 0; i <= LAST_REFUSAL; i++)
-        check(met[i] == is_refusal(i), "every refusal was met, and no other number");
+    check_met(0);
+}
+
+/* ---- links whose width and number the host puts in */
+
+/* Whether such a link counts as keyed. */
+static int counts_as_keyed(uint8_t width, uint64_t number)
+{
+    return width == 1 || (width == 0 && number <= UINT32_MAX);
+}
+
+/* Shows a lane and seals on such a sender; gives the answer. */
+static uint32_t lend_sender(uint8_t width, uint64_t last)
+{
+    uint32_t expected = !counts_as_keyed(width, last) ? RASPPUCE_NOT_KEYED
+        : last == most() ? RASPPUCE_NUMBERS_USED : RASPPUCE_OK;
+    *width_of(&sender) = width;
+    use_up_to(last);
+    prepare(SHORT);
+    fit_marked(&record, record_len_for(SHORT));
+    mark(&tag_shares);
+    mark(&lane);
+    save();
+    check(rasppuce_report(LEND(sender), LEND(message), LEND(tape), 1, 1, 0, LEND(lane)) == expected,
+          "a report goes by the width and the number in the link");
+    check(memcmp(sender.at, sender.saved, sender.len) == 0 && (expected == RASPPUCE_OK || all_as_saved()),
+          "a report leaves the link alone, and if refused every byte");
+    mark(&lane);
+    uint32_t answer = rasppuce_seal(LEND(sender), LEND(message), LEND(tape), LEND(record), LEND(tag_shares));
+    check(answer == expected, "sealing goes by the width and the number in the link");
+    if (expected != RASPPUCE_OK) {
+        check(all_as_saved(), "a refusal leaves every byte as it was");
+        return answer;
+    }
+    fit(&plain_record, record.len);
+    check(rasppuce_seal_plain(LEND(keys), LINK, wide, last + 1, LEND(message), LEND(plain_record)) == RASPPUCE_OK
+          && memcmp(record.at, plain_record.at, record.len) == 0, "the record has that width and the next number");
+    return answer;
+}
+
+/* Opens the next number on such a receiver, which has accepted none in its window; gives the answer. */
+static uint32_t lend_receiver(uint8_t width, uint64_t highest)
+{
+    int keyed = counts_as_keyed(width, highest);
+    uint64_t number = !keyed ? 1 : highest == most() ? most() - 1 : highest + 1;
+    *width_of(&receiver) = width;
+    put_word(receiver.at + LAST_AT, highest);
+    prepare(SHORT);
+    fit(&record, record_len_for(SHORT));
+    check(rasppuce_seal_plain(LEND(keys), LINK, wide, number, LEND(message), LEND(record)) == RASPPUCE_OK,
+          "sealing plainly");
+    fit_marked(&opened, SHORT);
+    save();
+    uint32_t answer = rasppuce_open(LEND(receiver), LEND(record), LEND(opened));
+    check(answer == (keyed ? RASPPUCE_OK : RASPPUCE_NOT_KEYED), "opening goes by the width and the number in the link");
+    if (keyed)
+        check(memcmp(opened.at, message.at, SHORT) == 0
+              && last_of(&receiver) == (number > highest ? number : highest)
+              && word_at(receiver.at + WINDOW_AT) == (number > highest ? 1 : 2), "the number is accepted");
+    else
+        check(all_as_saved(), "a refusal leaves every byte as it was");
+    return answer;
+}
+
+/* Only 0 and 1 are widths, and a narrow link has no number above 4294967295. */
+static void links_by_hand(void)
+{
+    static const uint8_t widths[] = {0, 1, 2, 3, 128, 255};
+    static const uint64_t numbers[] = {0, UINT32_MAX - 1, UINT32_MAX, UINT32_MAX + (uint64_t)1, (uint64_t)1 << 63,
+                                       UINT64_MAX - 1, UINT64_MAX};
+    for (size_t i = 0; i < sizeof widths / sizeof widths[0]; i++) {
+        wide = widths[i] != 0;
+        printf("  width %3u, sealing and opening:", widths[i]);
+        for (size_t j = 0; j < sizeof numbers / sizeof numbers[0]; j++) {
+            key_links();
+            uint32_t sealing = lend_sender(widths[i], numbers[j]);
+            uint32_t opening = lend_receiver(widths[i], numbers[j]);
+            printf("  %lu %lu", (unsigned long)sealing, (unsigned long)opening);
+        }
+        printf("\n");
+    }
+}
+
+/* ---- what widths are told, and what they share */
+
+/* Keying and plain sealing take 0 as narrow and any other number as wide. */
+static void told_widths(void)
+{
+    static const uint32_t told[] = {0, 1, 2, 256, 0x80000000, UINT32_MAX};
+    for (size_t i = 0; i < sizeof told / sizeof told[0]; i++) {
+        wide = told[i];
+        printf("  told %lu:\n", (unsigned long)wide);
+        key_links();
+        send(SHORT);
+        check(*width_of(&sender) == (i > 0) && record.len == SHORT + (i > 0 ? 28 : 24),
+              "0 is narrow, any other number wide");
+        fit_marked(&plain_record, record.len);
+        check(rasppuce_seal_plain(LEND(keys), LINK, wide, UINT32_MAX + (uint64_t)1, LEND(message), LEND(plain_record))
+              == (i > 0 ? RASPPUCE_OK : RASPPUCE_SEQUENCE), "only told wide is there a number 4294967296");
+    }
+}
+
+/* Under one key, a wide record is the narrow one of the same numbers with four zeros put in: so a link of
+ * another width needs fresh keys. */
+static void one_key_two_widths(void)
+{
+    wide = RASPPUCE_NARROW;
+    key_links();
+    use_up_to(0x01234566);
+    send(24);
+    fit(&record, plain_record.len + 4);
+    memcpy(record.at, plain_record.at, SEQUENCE_AT);
+    memset(record.at + SEQUENCE_AT, 0, 4);
+    memcpy(record.at + SEQUENCE_AT + 4, plain_record.at + SEQUENCE_AT, plain_record.len - SEQUENCE_AT);
+    fit_marked(&plain_record, record.len);
+    check(rasppuce_seal_plain(LEND(keys), LINK, RASPPUCE_WIDE, 0x01234567, LEND(message), LEND(plain_record))
+          == RASPPUCE_OK && memcmp(record.at, plain_record.at, record.len) == 0,
+          "records of both widths have the same counter blocks");
+    printf("  wide, under the same keys: the same key stream and tag\n");
 }
 
 /* ---- the whole */
 
-static void play(void)
+static void play_links(void)
 {
-    set_up();
-    printf("keying\n");
+    printf("-- %s links\nkeying\n", wide ? "wide" : "narrow");
     key_links();
     printf("sealing and opening\n");
-    static const size_t lengths[] = {0, 1, 8, 15, 16, 17, 32, 255, 256};
-    for (size_t i = 0; i < sizeof lengths / sizeof lengths[0]; i++)
-        send(lengths[i]);
+    send_all();
     printf("opening out of turn\n");
     out_of_turn();
     printf("reports\n");
-    report(0, 1, 1);
-    report(32, 6, RASPPUCE_LAST_ROUND - 1);
-    report(32, 6, RASPPUCE_LAST_ROUND);
-    report_outputs(0);
-    report_outputs(40);
-    report_outputs(RASPPUCE_MESSAGE_MOST);
-    printf("block cipher\n");
+    reports();
+    printf("refusals\n");
+    link_refusals();
+}
+
+static void play(void)
+{
+    set_up();
+    for (wide = RASPPUCE_NARROW; wide <= RASPPUCE_WIDE; wide++)
+        play_links();
+    printf("-- either width\nlinks with a width and a number put in\n");
+    links_by_hand();
+    printf("widths told\n");
+    told_widths();
+    one_key_two_widths();
+    printf("-- no link\nblock cipher\n");
     blocks();
     printf("bodies\n");
     bodies();
     printf("refusals\n");
-    refusals();
+    other_refusals();
     give_all_back();
 }
 

@@ -2,6 +2,7 @@
  * Rasppuce: seals time marks on a sending link and opens them on a receiving one.
  *
  * A message of at most 256 bytes becomes a record: link number, sequence number, ciphertext, tag.
+ * A link is narrow or wide: its sequence numbers have 32 bits, in 4 bytes of a record, or 64, in 8.
  * The cipher is BAKSHEESH, the modes are CTR (NIST SP 800-38A) and CMAC (NIST SP 800-38B).
  * rasppuce_seal works on three XOR shares of each key, masked by a tape of random bytes;
  * rasppuce_seal_plain works on the keys themselves and gives the same records.
@@ -28,6 +29,10 @@
  *   would have a number that was used, and under one number the key stream is the same: two such
  *   ciphertexts XOR to what their messages XOR to. If a stored link may be old, use new keys.
  *   An older copy of a receiving link lets the records since then in once more.
+ * - Widths. Keying fixes a link's width, and both ends need the same one. Another width needs fresh
+ *   keys: under one key, a narrow and a wide record of the same numbers have the same counter blocks
+ *   and so the same key stream. Keys that seal at one width must not seal at the other, by shares
+ *   or plainly.
  * - Secrets in memory. Links, keys and tapes are secret; rasppuce_wipe clears them. Every call that
  *   uses keys also leaves bytes of keys or key shares on the stack below its caller, and some calls
  *   leave bytes of the key stream, the message or the body (bench/sizes shows which). Where somebody
@@ -55,10 +60,10 @@ extern "C" {
 
 /* ---- version of this header and of the archive that comes with it: see CHANGELOG.md */
 
-#define RASPPUCE_VERSION_MAJOR 4
+#define RASPPUCE_VERSION_MAJOR 5
 #define RASPPUCE_VERSION_MINOR 0
 #define RASPPUCE_VERSION_PATCH 0
-#define RASPPUCE_VERSION       "4.0.0"
+#define RASPPUCE_VERSION       "5.0.0"
 
 /* ---- answers: success, refusals from the input (1 to 10), from the link's state (20 to 22), of
  * bodies (30 to 32), of a report's round and lane (33 and 34), of a number out of the window (35) */
@@ -71,12 +76,17 @@ extern "C" {
 #define RASPPUCE_OUTPUT        4u /* output shorter than the result */
 #define RASPPUCE_BLOCK         5u /* a block call's key, input or output isn't 16 bytes */
 #define RASPPUCE_CALL          6u /* the call to be shown isn't in 1 to 2n+2 */
-#define RASPPUCE_RECORD        7u /* record not 24 to 280 bytes */
+#define RASPPUCE_RECORD        7u /* record not 24 to 280 bytes on a narrow link, 28 to 284 on a
+                                     wide one */
 #define RASPPUCE_OTHER_LINK    8u /* the record has another link number */
 #define RASPPUCE_TAG           9u /* wrong tag */
-#define RASPPUCE_SEQUENCE     10u /* sequence number 0 in plain sealing */
-#define RASPPUCE_NOT_KEYED    20u /* the link isn't keyed, or its slice has a wrong length */
-#define RASPPUCE_NUMBERS_USED 21u /* the sender's last number is 4294967295, so none is left */
+#define RASPPUCE_SEQUENCE     10u /* in plain sealing: sequence number 0, or told narrow and one
+                                     above 4294967295 */
+#define RASPPUCE_NOT_KEYED    20u /* the link isn't keyed, its slice has a wrong length, its width
+                                     is over 1, or it is narrow and its last or highest number
+                                     above 4294967295 */
+#define RASPPUCE_NUMBERS_USED 21u /* the sender's last number is 4294967295, on a wide link
+                                     18446744073709551615, so none is left */
 #define RASPPUCE_REPEATED     22u /* the record's number is in the window and was accepted before */
 #define RASPPUCE_BODY_LENGTH  30u /* body not 4 to 256 bytes in steps of 4 */
 #define RASPPUCE_BODY_WORD    31u /* read: a word of kind 0, a kind 1 to 4 for the second time, or an
@@ -87,19 +97,22 @@ extern "C" {
 #define RASPPUCE_BELOW_WINDOW 35u /* the record's number is 0, or 64 or more below the highest
                                      accepted one */
 
+/* ---- widths, as keying and plain sealing are told them: 0 is narrow, any other number wide */
+
+#define RASPPUCE_NARROW 0u
+#define RASPPUCE_WIDE   1u
+
 /* ---- sizes in bytes; they can stand in #if */
 
 #define RASPPUCE_BLOCK_BYTES         16u  /* a block, and a key of the cipher */
-#define RASPPUCE_SENDER_BYTES        105u /* a sending link */
-#define RASPPUCE_RECEIVER_BYTES      49u  /* a receiving link */
+#define RASPPUCE_SENDER_BYTES        110u /* a sending link, of either width */
+#define RASPPUCE_RECEIVER_BYTES      54u  /* a receiving link, of either width */
 #define RASPPUCE_SENDER_KEY_BYTES    96u  /* three shares of KE, then three of KM */
 #define RASPPUCE_RECEIVER_KEY_BYTES  32u  /* KE, then KM; for plain sealing too */
 #define RASPPUCE_MESSAGE_MOST        256u /* the longest message */
 #define RASPPUCE_NUMBER_BYTES        4u   /* a link number, at a record's start */
-#define RASPPUCE_SEQUENCE_BYTES      4u   /* a sequence number, behind it */
 #define RASPPUCE_TAG_BYTES           16u  /* a record's tag, at its end */
-#define RASPPUCE_RECORD_ADDS         24u  /* what a record has more than its message */
-#define RASPPUCE_RECORD_MOST         280u /* the longest record */
+#define RASPPUCE_RECORD_MOST         284u /* the longest record of either width */
 #define RASPPUCE_SHARES_BYTES        52u  /* three tag shares and the tape count */
 #define RASPPUCE_LANE_BYTES          48u  /* one reported lane */
 #define RASPPUCE_BODY_MOST           256u /* the longest body that can be read */
@@ -108,6 +121,13 @@ extern "C" {
 #define RASPPUCE_ROUND_MASKS_BYTES   32u  /* of a tape: two masks, for a round of a call or its output */
 #define RASPPUCE_TAPE_MOST           39232u /* the tape for the longest message */
 #define RASPPUCE_STACK_MOST          5120u  /* the stack of any call, and a quarter more */
+
+/* For a width w, as it is told: the bytes of a sequence number, behind a record's link number; what a
+ * record has more than its message, 24 or 28 bytes; the last sequence number. */
+#define RASPPUCE_SEQUENCE_BYTES(w) ((w) != 0 ? 8u : 4u)
+#define RASPPUCE_RECORD_ADDS(w) \
+    (RASPPUCE_NUMBER_BYTES + RASPPUCE_SEQUENCE_BYTES(w) + RASPPUCE_TAG_BYTES)
+#define RASPPUCE_SEQUENCE_MOST(w) ((w) != 0 ? 18446744073709551615u : 4294967295u)
 
 /* How many numbers a receiver's window covers: the highest accepted one and those right below it. */
 #define RASPPUCE_WINDOW 64u
@@ -145,12 +165,12 @@ static inline const char *rasppuce_meaning(uint32_t answer)
     case RASPPUCE_OUTPUT:       return "an output is shorter than the result";
     case RASPPUCE_BLOCK:        return "a block call takes 16 bytes each";
     case RASPPUCE_CALL:         return "the sealing has no such call";
-    case RASPPUCE_RECORD:       return "a record has 24 to 280 bytes";
+    case RASPPUCE_RECORD:       return "a record has 24 to 280 bytes, a wide one 28 to 284";
     case RASPPUCE_OTHER_LINK:   return "the record is for another link";
     case RASPPUCE_TAG:          return "wrong tag: damaged, forged or under another key";
-    case RASPPUCE_SEQUENCE:     return "sequence numbers begin with 1";
-    case RASPPUCE_NOT_KEYED:    return "the link is not keyed";
-    case RASPPUCE_NUMBERS_USED: return "the link has used its last number: key it anew";
+    case RASPPUCE_SEQUENCE:     return "sequence numbers begin with 1; a narrow one has 32 bits";
+    case RASPPUCE_NOT_KEYED:    return "these bytes are not a keyed link";
+    case RASPPUCE_NUMBERS_USED: return "the link has used its last number: key it with fresh keys";
     case RASPPUCE_REPEATED:     return "this number was accepted before";
     case RASPPUCE_BODY_LENGTH:  return "a body has 4 to 256 bytes, in steps of 4";
     case RASPPUCE_BODY_WORD:    return "a word of the body or a value of the mark is not allowed";
@@ -181,38 +201,45 @@ static inline void rasppuce_wipe(uint8_t *bytes, size_t len)
  *
  * A link is bytes of the host, which keeps them between calls and lends them to each:
  *
- *     byte 0        1 if the link is keyed; anything else if not, so all zeros is a fresh link
- *     bytes 1 to 4  link number
- *     bytes 5 to 8  the last number used (sender) or the highest accepted (receiver)
- *     bytes 9 on    keys: 96 bytes for a sender, 32 for a receiver
- *     bytes 41 to 48, of a receiver only: the window, a word of 64 bits; bit k, of the value 2^k, is
- *                   1 if the number k below the highest accepted one was accepted
+ *     byte 0         1 if the link is keyed; anything else if not, so all zeros is a fresh link
+ *     bytes 1 to 4   link number
+ *     bytes 5 to 12  the last number used (sender) or the highest accepted (receiver)
+ *     bytes 13 on    keys: 96 bytes for a sender, 32 for a receiver
+ *     bytes 45 to 52, of a receiver only: the window, a word of 64 bits; bit k, of the value 2^k, is
+ *                    1 if the number k below the highest accepted one was accepted
+ *     the last byte  the width, 0 if narrow and 1 if wide: byte 109 of a sender, 53 of a receiver
  *
  * Only the calls below should change them. The bytes hold the keys: treat them as secret.
+ *
+ * As not keyed count: a slice of another length, such as a link stored by a version before 5, of 105
+ * or 49 bytes; a width over 1; and a narrow link whose last or highest number is above 4294967295.
+ * Such a link has to be keyed, with fresh keys.
  */
 
 /*
- * Keys a sending link with a number and 96 bytes: three shares of KE, then three of KM, each of 16
- * bytes. A key is the XOR of its shares. Whatever the link was before, it is keyed afterwards, its
- * last number is 0, and the first record will be number 1.
+ * Keys a sending link with a number, a width (wide: 0 if narrow, any other number if wide) and 96
+ * bytes: three shares of KE, then three of KM, each of 16 bytes. A key is the XOR of its shares.
+ * Whatever the link was before, it is keyed afterwards, its last number is 0, and the first record
+ * will be number 1.
  *
- * Never key twice with the same keys and number: the sequence numbers would begin again, and with
- * them the same key stream.
+ * Never key twice with the same keys and number, whatever the widths are: the sequence numbers would
+ * begin again, and with them the same key stream.
  *
- * Refuses: RASPPUCE_KEYS (link not 105 bytes or keys not 96).
+ * Refuses: RASPPUCE_KEYS (link not 110 bytes or keys not 96).
  */
 RASPPUCE_CHECK
-uint32_t rasppuce_key_sender(uint8_t *link, size_t link_len, uint32_t number,
+uint32_t rasppuce_key_sender(uint8_t *link, size_t link_len, uint32_t number, uint32_t wide,
                              const uint8_t *keys, size_t keys_len);
 
 /*
- * Keys a receiving link with a number and 32 bytes: KE, then KM. Afterwards its highest number is 0
- * and its window clear. Keying again with the same keys lets old records in again.
+ * Keys a receiving link with a number, a width (as for a sender, and the same as there) and 32
+ * bytes: KE, then KM. Afterwards its highest number is 0 and its window clear. Keying again with
+ * the same keys lets old records in again.
  *
- * Refuses: RASPPUCE_KEYS (link not 49 bytes or keys not 32).
+ * Refuses: RASPPUCE_KEYS (link not 54 bytes or keys not 32).
  */
 RASPPUCE_CHECK
-uint32_t rasppuce_key_receiver(uint8_t *link, size_t link_len, uint32_t number,
+uint32_t rasppuce_key_receiver(uint8_t *link, size_t link_len, uint32_t number, uint32_t wide,
                                const uint8_t *keys, size_t keys_len);
 
 /*
@@ -221,12 +248,13 @@ uint32_t rasppuce_key_receiver(uint8_t *link, size_t link_len, uint32_t number,
  * tape    random bytes, RASPPUCE_TAPE_BYTES(message_len) of them; the rest of a longer tape isn't
  *         read. Use fresh ones for each sealing. The record doesn't depend on them.
  * record  gets message_len + 24 bytes: link number (4), sequence number (4), ciphertext, tag (16).
+ *         On a wide link it gets message_len + 28: the sequence number has 8.
  * shares  gets 52 bytes: tag shares 0, 1, 2 of 16 bytes each, which XOR to the tag, then the
  *         number of tape bytes read (4).
  * link    its last number goes up by one; nothing else in it changes.
  *
  * Refuses, and then uses no number: RASPPUCE_NOT_KEYED, RASPPUCE_NUMBERS_USED, RASPPUCE_MESSAGE,
- * RASPPUCE_TAPE, RASPPUCE_OUTPUT (record shorter than message_len + 24, or shares than 52).
+ * RASPPUCE_TAPE, RASPPUCE_OUTPUT (record shorter than what it gets, or shares than 52).
  */
 RASPPUCE_CHECK
 uint32_t rasppuce_seal(uint8_t *link, size_t link_len,
@@ -240,12 +268,12 @@ uint32_t rasppuce_seal(uint8_t *link, size_t link_len,
  * above the highest accepted one, or among the 64 up to that one and not accepted yet. This is the
  * anti-replay window of RFC 4303. A record that arrives 64 numbers late or later is lost.
  *
- * message  gets the record_len - 24 bytes that were sealed.
+ * message  gets the record_len - 24 bytes that were sealed, on a wide link record_len - 28.
  * link     the window has the record's number; if it is the highest yet, it becomes the highest
  *          number, and the window moves up with it. Nothing else in the link changes.
  *
  * Refuses: RASPPUCE_NOT_KEYED, RASPPUCE_RECORD, RASPPUCE_OTHER_LINK, RASPPUCE_OUTPUT (message
- * shorter than record_len - 24), RASPPUCE_BELOW_WINDOW, RASPPUCE_REPEATED, RASPPUCE_TAG.
+ * shorter than what it gets), RASPPUCE_BELOW_WINDOW, RASPPUCE_REPEATED, RASPPUCE_TAG.
  */
 RASPPUCE_CHECK
 uint32_t rasppuce_open(uint8_t *link, size_t link_len,
@@ -253,19 +281,22 @@ uint32_t rasppuce_open(uint8_t *link, size_t link_len,
                        uint8_t *message, size_t message_len);
 
 /*
- * Seals a message plainly: 32 bytes of keys (KE, then KM), the link number and the sequence number
- * to use. The record is the one that rasppuce_seal makes on a link of that number whose shares XOR
- * to these keys and whose next number is that sequence number.
+ * Seals a message plainly: 32 bytes of keys (KE, then KM), the link number, the width (wide: 0 if
+ * narrow, any other number if wide) and the sequence number to use. The record is the one that
+ * rasppuce_seal makes on a link of that number and width whose shares XOR to these keys and whose
+ * next number is that sequence number.
  *
- * The host has to see to it that no sequence number is used twice under the same keys and number.
+ * The host has to see to it that no sequence number is used twice under the same keys and number,
+ * whatever the widths are.
  *
- * record  gets message_len + 24 bytes.
+ * sequence  from 1 to RASPPUCE_SEQUENCE_MOST(wide)
+ * record    gets message_len + 24 bytes, or message_len + 28 if wide.
  *
  * Refuses: RASPPUCE_KEYS (not 32 bytes), RASPPUCE_SEQUENCE, RASPPUCE_MESSAGE, RASPPUCE_OUTPUT.
  */
 RASPPUCE_CHECK
 uint32_t rasppuce_seal_plain(const uint8_t *keys, size_t keys_len,
-                             uint32_t number, uint32_t sequence,
+                             uint32_t number, uint32_t wide, uint64_t sequence,
                              const uint8_t *message, size_t message_len,
                              uint8_t *record, size_t record_len);
 
