@@ -5,8 +5,9 @@ use crate::aes;
 use crate::body::{self, Mark};
 use crate::cipher::{self, Block, CONSTANTS, PERMUTATION, ROUNDS, SBOX};
 use crate::hex;
-use crate::links::{self, Window};
+use crate::links::{self, Width, Window, RECEIVER, RECEIVER_KEYS, SENDER, SENDER_KEYS, WIDTHS};
 use crate::modes;
+use crate::random::Random;
 use crate::shares::{self, Shares, PAIRS};
 use crate::tally::Tally;
 
@@ -149,38 +150,111 @@ pub fn shares(tally: &mut Tally) {
     }
 
     let mut random = tally.random();
-    for length in [0, 1, 15, 16, 17, 100, 256] {
-        let keys = random.bytes(links::SENDER_KEYS);
-        let joined = links::joined_keys(&keys);
-        let (number, last) = (random.number() as u32, random.below(1000) as u32);
-        let message = random.bytes(length);
-        let tape = random.bytes(shares::tape_need(length));
-        let mut link = links::sending(number, last, &keys);
-        let sealing = links::next_sealing(&links::sender(&link).expect("keyed"), &message, &tape);
-        let plain = links::plain_calls(&joined, number, last + 1, &message);
-        tally.same_number(format_args!("calls, {length}"), sealing.calls.len() as u32, plain.len() as u32);
-        for (k, (call, (key, input))) in sealing.calls.iter().zip(&plain).enumerate() {
-            let output = cipher::encrypt(key, input);
-            tally.same(format_args!("call {}, joined", k + 1), &shares::join(&call.output), &output);
-            let rounds = cipher::rounds(key, input);
-            for r in 0..PAIRS {
-                let state = shares::join(&std::array::from_fn(|i| call.rounds[r].state_share(i)));
-                tally.same(format_args!("call {}, round {}, joined", k + 1, r + 1), &state, &rounds[r].0);
-            }
-            // The output is the last of the rounds, with the key of the one before it.
-            let (ciphertext, last_key) = rounds[PAIRS - 1];
-            tally.same(format_args!("call {}, plain output", k + 1), &ciphertext, &output);
-            let rotated = u128::from_be_bytes(*key).rotate_right(ROUNDS as u32).to_be_bytes();
-            tally.same(format_args!("call {}, plain key of the output", k + 1), &last_key, &rotated);
-            let shown: Shares = std::array::from_fn(|i| call.rounds[PAIRS - 1].state_share(i));
-            tally.same(format_args!("call {}, output shares", k + 1), &shown.concat(), &call.output.concat());
+    for width in WIDTHS {
+        for length in [0, 1, 15, 16, 17, 100, 256] {
+            shared_sealing(tally, &mut random, width, length);
         }
-        let mut record = vec![0; length + links::ADDED];
-        let mut shares = vec![0; links::SHARES];
-        let answer = links::seal(&mut link, &message, &tape, &mut record, &mut shares);
-        tally.same_number(format_args!("own sealing, {length}"), answer, 0);
-        let expected = links::plain_record(&joined, number, last + 1, &message);
-        tally.same(format_args!("own plain and shared record, {length}"), &record, &expected);
+    }
+}
+
+/// A shared sealing of a message of this length joins to the plain one.
+fn shared_sealing(tally: &mut Tally, random: &mut Random, width: Width, length: usize) {
+    let keys = random.bytes(SENDER_KEYS);
+    let joined = links::joined_keys(&keys);
+    let (number, sequence) = (random.number() as u32, width.some_sequence(random));
+    let message = random.bytes(length);
+    let tape = random.bytes(shares::tape_need(length));
+    let mut link = links::sending(number, width, sequence - 1, &keys);
+    let sealing = links::next_sealing(&links::sender(&link).expect("keyed"), &message, &tape);
+    let plain = links::plain_calls(&joined, number, sequence, &message);
+    tally.same_number(format_args!("calls, {length}"), sealing.calls.len() as u32, plain.len() as u32);
+    for (k, (call, (key, input))) in sealing.calls.iter().zip(&plain).enumerate() {
+        let output = cipher::encrypt(key, input);
+        tally.same(format_args!("call {}, joined", k + 1), &shares::join(&call.output), &output);
+        let rounds = cipher::rounds(key, input);
+        for r in 0..PAIRS {
+            let state = shares::join(&std::array::from_fn(|i| call.rounds[r].state_share(i)));
+            tally.same(format_args!("call {}, round {}, joined", k + 1, r + 1), &state, &rounds[r].0);
+        }
+        // The output is the last of the rounds, with the key of the one before it.
+        let (ciphertext, last_key) = rounds[PAIRS - 1];
+        tally.same(format_args!("call {}, plain output", k + 1), &ciphertext, &output);
+        let rotated = u128::from_be_bytes(*key).rotate_right(ROUNDS as u32).to_be_bytes();
+        tally.same(format_args!("call {}, plain key of the output", k + 1), &last_key, &rotated);
+        let shown: Shares = std::array::from_fn(|i| call.rounds[PAIRS - 1].state_share(i));
+        tally.same(format_args!("call {}, output shares", k + 1), &shown.concat(), &call.output.concat());
+    }
+    let mut record = vec![0; length + width.added()];
+    let mut shares = vec![0; links::SHARES];
+    let answer = links::seal(&mut link, &message, &tape, &mut record, &mut shares);
+    tally.same_number(format_args!("own sealing, {length}"), answer, 0);
+    let expected = links::plain_record(&joined, number, width, sequence, &message);
+    tally.same(format_args!("own plain and shared record, {length}"), &record, &expected);
+}
+
+/// The bytes that pieces of digits say, one behind the other.
+fn bytes_of(pieces: &[&str]) -> Vec<u8> {
+    hex::bytes(&pieces.concat()).expect("digits")
+}
+
+/// Links, counter blocks and records of both widths, with the bytes that are set for them.
+pub fn widths(tally: &mut Tally) {
+    const LINK: u32 = 0x0102_0304;
+    for (width, byte) in [(Width::Narrow, "00"), (Width::Wide, "01")] {
+        let keys = "a5".repeat(SENDER_KEYS);
+        let own = links::sending(LINK, width, 0x1112_1314, &[0xa5; SENDER_KEYS]);
+        let expected = bytes_of(&["01", "01020304", "0000000011121314", &keys, byte]);
+        tally.same(format_args!("own sender, {width:?}"), &own, &expected);
+        let keys = "5a".repeat(RECEIVER_KEYS);
+        let window = Window { highest: 0x2122_2324, word: 0x3132_3334_3536_3738 };
+        let own = links::receiving(LINK, width, window, &[0x5a; RECEIVER_KEYS]);
+        let expected = bytes_of(&["01", "01020304", "0000000021222324", &keys, "3132333435363738", byte]);
+        tally.same(format_args!("own receiver, {width:?}"), &own, &expected);
+        tally.same_flag(format_args!("own window of it"), Window::of(&own) == window, true);
+    }
+    tally.same_number(format_args!("bytes of a sender"), SENDER as u32, 110);
+    tally.same_number(format_args!("bytes of a receiver"), RECEIVER as u32, 54);
+    for (sequence, digits) in [
+        (1, "01020304000000000000000100000009"),
+        (0xf1f2_f3f4, "0102030400000000f1f2f3f400000009"),
+        (0x1_0000_0000, "01020304000000010000000000000009"),
+        (0xf1f2_f3f4_f5f6_f7f8, "01020304f1f2f3f4f5f6f7f800000009"),
+    ] {
+        let own = shares::counter_block(LINK, sequence, 9);
+        tally.same(format_args!("own counter block, {sequence:x}"), &own, &bytes_of(&[digits]));
+    }
+    for (width, sequence, head) in [
+        (Width::Narrow, 5, "0102030400000005"),
+        (Width::Narrow, 0xffff_ffff, "01020304ffffffff"),
+        (Width::Wide, 5, "010203040000000000000005"),
+        (Width::Wide, 0xffff_ffff, "0102030400000000ffffffff"),
+        (Width::Wide, 0x1_0000_0000, "010203040000000100000000"),
+        (Width::Wide, u64::MAX, "01020304ffffffffffffffff"),
+    ] {
+        let own = links::plain_record(&[7; RECEIVER_KEYS], LINK, width, sequence, b"four");
+        let head = bytes_of(&[head]);
+        tally.same(format_args!("own head of {sequence}, {width:?}"), &own[..head.len()], &head);
+        tally.same_number(format_args!("bytes of it"), own.len() as u32, head.len() as u32 + 4 + 16);
+        let read = width.sequence(&own).to_be_bytes();
+        tally.same(format_args!("own number of it"), &read, &sequence.to_be_bytes());
+    }
+    // Keyed or not, by the last byte and the last number.
+    for (byte, last, is_keyed) in [
+        (0, 0, true),
+        (0, 4_294_967_295, true),
+        (0, 4_294_967_296, false),
+        (0, u64::MAX, false),
+        (1, 0, true),
+        (1, 4_294_967_296, true),
+        (1, u64::MAX, true),
+        (2, 0, false),
+        (255, 0, false),
+    ] {
+        let mut link = links::sending(LINK, Width::Narrow, last, &[0; SENDER_KEYS]);
+        links::set_width_byte(&mut link, byte);
+        let own = links::sender(&link).is_some();
+        tally.same_flag(format_args!("own sender is keyed, {byte}, {last}"), own, is_keyed);
+        tally.same_flag(format_args!("own sender, cut"), links::sender(&link[..109]).is_some(), false);
     }
 }
 
@@ -214,17 +288,20 @@ pub fn values(tally: &mut Tally) {
 /// Windows and a number for each: the window after it, or the refusal.
 pub fn window(tally: &mut Tally) {
     const ONES: u64 = u64::MAX;
-    const LAST: u32 = u32::MAX;
-    let cases: [(u32, u64, u32, Result<(u32, u64), u32>); 22] = [
+    const TOP: u64 = 0x8000_0000_0000_0000;
+    const EDGE: u64 = 1 << 32;
+    const LAST: u64 = u64::MAX;
+    let cases: [(u64, u64, u64, Result<(u64, u64), u32>); 33] = [
         (0, 0, 1, Ok((1, 1))),
         (0, 0, 64, Ok((64, 1))),
+        (0, 0, EDGE - 1, Ok((EDGE - 1, 1))),
         (0, 0, LAST, Ok((LAST, 1))),
         (1, 1, 2, Ok((2, 3))),
         (5, 0x1d, 4, Ok((5, 0x1f))),
         (5, 0x1d, 7, Ok((7, 0x75))),
         (5, 0x1d, 3, Err(22)),
-        (64, 1, 1, Ok((64, 0x8000_0000_0000_0001))),
-        (64, 0x8000_0000_0000_0001, 1, Err(22)),
+        (64, 1, 1, Ok((64, TOP | 1))),
+        (64, TOP | 1, 1, Err(22)),
         (65, 0, 1, Err(35)),
         (65, ONES, 1, Err(35)),
         (0, ONES, 0, Err(35)),
@@ -232,11 +309,21 @@ pub fn window(tally: &mut Tally) {
         (63, 0, 0, Err(35)),
         // The bits of numbers below 1 move along.
         (0, ONES, 5, Ok((5, 0xffff_ffff_ffff_ffe1))),
-        (10, ONES, 73, Ok((73, 0x8000_0000_0000_0001))),
+        (10, ONES, 73, Ok((73, TOP | 1))),
         (10, ONES, 74, Ok((74, 1))),
         (10, ONES, 138, Ok((138, 1))),
+        (EDGE - 65, ONES, EDGE - 1, Ok((EDGE - 1, 1))),
+        (EDGE - 1, 0, EDGE - 64, Ok((EDGE - 1, TOP))),
+        (EDGE - 1, 0, EDGE - 65, Err(35)),
+        (EDGE - 1, 1, EDGE, Ok((EDGE, 3))),
+        (EDGE, 1, EDGE - 1, Ok((EDGE, 3))),
+        (EDGE + 3, 0x11, EDGE - 1, Err(22)),
+        (EDGE + 62, 0, EDGE - 1, Ok((EDGE + 62, TOP))),
+        (EDGE + 63, ONES, EDGE - 1, Err(35)),
+        (5, ONES, EDGE + 6, Ok((EDGE + 6, 1))),
+        (EDGE + 5, 1, 5, Err(35)),
         (LAST - 64, ONES, LAST, Ok((LAST, 1))),
-        (LAST, 0, LAST - 63, Ok((LAST, 0x8000_0000_0000_0000))),
+        (LAST, 0, LAST - 63, Ok((LAST, TOP))),
         (LAST, 0, LAST - 64, Err(35)),
         (LAST, 0, 1, Err(35)),
     ];
@@ -248,7 +335,8 @@ pub fn window(tally: &mut Tally) {
         tally.same_number(format_args!("own answer, {what}"), refusal.unwrap_or(0), known);
         let after = if refusal.is_none() { window.with(sequence) } else { window };
         let (highest, word) = expected.unwrap_or((highest, word));
-        tally.same_number(format_args!("own highest number, {what}"), after.highest, highest);
+        let own = after.highest.to_be_bytes();
+        tally.same(format_args!("own highest number, {what}"), &own, &highest.to_be_bytes());
         tally.same(format_args!("own window, {what}"), &after.word.to_be_bytes(), &word.to_be_bytes());
     }
 }

@@ -3,10 +3,10 @@
 
 use crate::body::{self, Mark, BAD_LENGTH, BAD_WORD, MISSING_KIND};
 use crate::cipher::{self, Block};
-use crate::held::{LENGTHS, ROUNDS_SHOWN};
+use crate::held::{LENGTHS, ROUNDS_SHOWN, WIDE_NUMBERS};
 use crate::hex::Hex;
 use crate::links::{
-    self, Window, ADDED, BAD_RECORD, BELOW_WINDOW, LANE, OTHER_LINK, REPEATED, SHARES, WRONG_TAG,
+    self, Width, Window, BAD_RECORD, BELOW_WINDOW, LANE, OTHER_LINK, REPEATED, SHARES, WRONG_TAG,
 };
 use crate::modes;
 use crate::random::Random;
@@ -25,12 +25,12 @@ const TIME_MARK_WORDS: [u32; 4] = [0x1000_0006, 0x29a5_8b05, 0x3400_0000, 0x4000
 pub fn print() {
     print!("{HEAD}");
     blocks(&mut Random::new(1));
-    records(&mut Random::new(2));
-    opened(&mut Random::new(6));
-    refused(&mut Random::new(3));
+    records(&mut Random::new(2), &mut Random::new(7));
+    opened(&mut Random::new(6), &mut Random::new(8));
+    refused(&mut Random::new(3), &mut Random::new(9));
     bodies(&mut Random::new(5));
     refused_bodies();
-    shared(&mut Random::new(4));
+    shared(&mut Random::new(4), &mut Random::new(10));
 }
 
 /// The beginning of a group: a blank line, a remark, its kind and number.
@@ -72,20 +72,24 @@ fn blocks(random: &mut Random) {
 
 // ---- records
 
-/// Prints [record] groups; it has the number of the last one.
-struct Records(usize);
+/// Prints [record] groups of one width; it has the number of the last one.
+struct Records {
+    width: Width,
+    count: usize,
+}
 
 impl Records {
-    fn put(&mut self, remark: &str, keys: &[u8], link: u32, sequence: u32, message: &[u8]) {
-        self.0 += 1;
-        begin("record", self.0, remark);
+    fn put(&mut self, remark: &str, keys: &[u8], link: u32, sequence: u64, message: &[u8]) {
+        self.count += 1;
+        begin("record", self.count, remark);
         field_blocks(&["ke", "km"], keys);
         field("link", link);
+        field("wide", self.width as u8);
         field("sequence", sequence);
         let (ke, km) = links::two_keys(keys);
         let counter = shares::counter_block(link, sequence, 0);
         let (k1, k2) = modes::subkeys(|block| cipher::encrypt(&km, block));
-        let record = links::plain_record(keys, link, sequence, message);
+        let record = links::plain_record(keys, link, self.width, sequence, message);
         fields(&[
             ("message", message),
             ("counter_block", &counter),
@@ -99,46 +103,77 @@ impl Records {
     }
 }
 
-fn records(random: &mut Random) {
-    let mut records = Records(0);
+fn records(random: &mut Random, of_wide: &mut Random) {
+    const MOST: u64 = u32::MAX as u64;
+    let mut records = Records { width: Width::Narrow, count: 0 };
     let keys = Vec::from_iter(0..32);
     for (i, length) in LENGTHS.into_iter().enumerate() {
         let remark = format!("the first records of one link: {length} bytes");
-        records.put(&remark, &keys, 1, i as u32 + 1, &random.bytes(length));
+        records.put(&remark, &keys, 1, i as u64 + 1, &random.bytes(length));
     }
     records.put("a time mark in ASCII", &random.bytes(32), 7, 1, TIME_MARK);
     for (link, sequence) in
-        [(0, 1), (0, 2), (u32::MAX, 1), (1, u32::MAX), (u32::MAX, u32::MAX), (0x0102_0304, 0x0506_0708)]
+        [(0, 1), (0, 2), (u32::MAX, 1), (1, MOST), (u32::MAX, MOST), (0x0102_0304, 0x0506_0708)]
     {
         let remark = format!("link number {link:08x}, sequence number {sequence:08x}, hexadecimal");
         records.put(&remark, &random.bytes(32), link, sequence, &random.bytes(20));
     }
     records.put("all bits 0 but the sequence number's last", &[0; 32], 0, 1, &[0; 16]);
-    records.put("all bits 1", &[0xff; 32], u32::MAX, u32::MAX, &[0xff; 33]);
+    records.put("all bits 1", &[0xff; 32], u32::MAX, MOST, &[0xff; 33]);
     for length in [2, 14, 48, 64, 100, 128, 200] {
         let (link, sequence) = (random.number() as u32, random.number() as u32);
         records.put(
             &format!("random, {length} bytes"),
             &random.bytes(32),
             link,
-            sequence,
+            sequence.into(),
             &random.bytes(length),
         );
     }
     let body = body::bytes(&TIME_MARK_WORDS);
     records.put("a time mark, the body of [body 1]", &random.bytes(32), 7, 2, &body);
+
+    records.width = Width::Wide;
+    wide_records(&mut records, of_wide);
+}
+
+fn wide_records(records: &mut Records, random: &mut Random) {
+    let keys = Vec::from_iter(32..64);
+    for (i, length) in LENGTHS.into_iter().enumerate() {
+        let remark = format!("records of one wide link, across 4294967296: {length} bytes");
+        records.put(&remark, &keys, 1, 4_294_967_291 + i as u64, &random.bytes(length));
+    }
+    records.put("a wide link, a time mark in ASCII", &random.bytes(32), 7, 1, TIME_MARK);
+    for (link, sequence) in WIDE_NUMBERS.map(|sequence| (0x0102_0304, sequence)).into_iter().chain([
+        (0, 1 << 63),
+        (u32::MAX, 4_294_967_296),
+        (0x0102_0304, 0x0506_0708_090a_0b0c),
+    ]) {
+        let remark = format!("a wide link, numbers {link:08x} and {sequence:016x}, hexadecimal");
+        records.put(&remark, &random.bytes(32), link, sequence, &random.bytes(20));
+    }
+    let remark = "as [record 18] on a wide link: the same ciphertext and tag";
+    records.put(remark, &[0; 32], 0, 1, &[0; 16]);
+    records.put("a wide link, all bits 1", &[0xff; 32], u32::MAX, u64::MAX, &[0xff; 33]);
+    for length in [2, 48, 100, 200] {
+        let (link, sequence) = (random.number() as u32, random.number());
+        let (keys, message) = (random.bytes(32), random.bytes(length));
+        records.put(&format!("a wide link, random, {length} bytes"), &keys, link, sequence, &message);
+    }
 }
 
 // ---- a receiver
 
 /// The link number of the receivers here.
 const LINK: u32 = 0x0102_0304;
-/// The first number whose highest bit is 1.
-const HALF: u32 = 1 << 31;
+/// The first number whose highest bit of 32 is 1, and the first that has more than 32.
+const HALF: u64 = 1 << 31;
+const EDGE: u64 = 1 << 32;
 
 /// Prints groups of one kind, of a receiver with these keys; it has the number of the last one.
 struct Receiver {
     kind: &'static str,
+    width: Width,
     keys: Vec<u8>,
     count: usize,
 }
@@ -151,16 +186,22 @@ impl Receiver {
         begin(self.kind, self.count, remark);
         field_blocks(&["ke", "km"], &self.keys);
         field("link", LINK);
+        field("wide", self.width as u8);
         field_window("highest", "window", window);
         field("record", Hex(record));
-        let mut link = links::receiving(LINK, window, &self.keys);
-        let mut message = vec![0; record.len().saturating_sub(ADDED)];
+        let mut link = links::receiving(LINK, self.width, window, &self.keys);
+        let mut message = vec![0; record.len().saturating_sub(self.width.added())];
         let answer = links::open(&mut link, record, &mut message);
         (answer, Window::of(&link), message)
     }
 
-    fn put_opened(&mut self, remark: &str, window: Window, sequence: u32) {
-        let record = links::plain_record(&self.keys, LINK, sequence, TIME_MARK);
+    /// The record of a time mark.
+    fn sealed(&self, link: u32, sequence: u64) -> Vec<u8> {
+        links::plain_record(&self.keys, link, self.width, sequence, TIME_MARK)
+    }
+
+    fn put_opened(&mut self, remark: &str, window: Window, sequence: u64) {
+        let record = self.sealed(LINK, sequence);
         let (answer, after, message) = self.offer(remark, window, &record);
         assert_eq!((answer, &message[..]), (0, TIME_MARK), "{remark}");
         field("message", Hex(&message));
@@ -180,8 +221,9 @@ fn field_window(highest: &str, word: &str, window: Window) {
 }
 
 /// Windows as they come about: bit 0 is 1 if a record was accepted, and no number below 1 was.
-fn opened(random: &mut Random) {
-    let mut receiver = Receiver { kind: "opened", keys: random.bytes(32), count: 0 };
+fn opened(random: &mut Random, of_wide: &mut Random) {
+    const LAST: u64 = u32::MAX as u64;
+    let mut receiver = Receiver { kind: "opened", width: Width::Narrow, keys: random.bytes(32), count: 0 };
     for (remark, highest, word, sequence) in [
         ("one number late", 100, 0x1d, 99),
         ("two numbers late, the one between is still missing", 100, 1, 98),
@@ -191,7 +233,7 @@ fn opened(random: &mut Random) {
         ("one number late, across 2147483648", HALF, 1, HALF - 1),
         ("the first record of a link", 0, 0, 1),
         ("the first record that arrives has number 64", 0, 0, 64),
-        ("the first record that arrives has the last number there is", 0, 0, u32::MAX),
+        ("the first record that arrives has the last number there is", 0, 0, LAST),
         ("the next number, the highest bit is lost", 100, 0xc000_0000_0000_0001, 101),
         ("the next number, all bits 1", 100, u64::MAX, 101),
         ("two numbers on, one is missing", 100, 7, 102),
@@ -203,9 +245,36 @@ fn opened(random: &mut Random) {
         ("65 numbers on", 100, u64::MAX, 165),
         ("128 numbers on", 100, u64::MAX, 228),
         ("2147483648 numbers on", 100, u64::MAX, HALF + 100),
-        ("one number on, to the last there is", u32::MAX - 1, 3, u32::MAX),
-        ("64 numbers on, to the last there is", u32::MAX - 64, u64::MAX, u32::MAX),
-        ("63 numbers late, behind the last there is", u32::MAX, 1, u32::MAX - 63),
+        ("one number on, to the last there is", LAST - 1, 3, LAST),
+        ("64 numbers on, to the last there is", LAST - 64, u64::MAX, LAST),
+        ("63 numbers late, behind the last there is", LAST, 1, LAST - 63),
+    ] {
+        receiver.put_opened(remark, Window { highest, word }, sequence);
+    }
+    opened_wide(Receiver { width: Width::Wide, keys: of_wide.bytes(32), ..receiver });
+}
+
+fn opened_wide(mut receiver: Receiver) {
+    const LAST: u64 = u64::MAX;
+    for (remark, highest, word, sequence) in [
+        ("a wide link, the next number", 100, 0x1d, 101),
+        ("the first record of a wide link", 0, 0, 1),
+        ("a wide link, the first record that arrives has number 4294967296", 0, 0, EDGE),
+        ("a wide link, the first record that arrives has the last number there is", 0, 0, LAST),
+        ("one number on, to the last of 32 bits", EDGE - 2, 3, EDGE - 1),
+        ("one number on, across 4294967296", EDGE - 1, 0xc000_0000_0000_0003, EDGE),
+        ("one number late, across 4294967296", EDGE, 1, EDGE - 1),
+        ("two numbers late, across 4294967296, all others were accepted", EDGE + 1, !4, EDGE - 1),
+        ("63 numbers late, across 4294967296", EDGE + 62, 1, EDGE - 1),
+        ("32 numbers on, across 4294967296", EDGE - 16, 0x0000_0001_8000_0003, EDGE + 16),
+        ("63 numbers on, across 4294967296, one bit stays", EDGE - 1, u64::MAX, EDGE + 62),
+        ("64 numbers on, across 4294967296, no bit stays", EDGE - 1, u64::MAX, EDGE + 63),
+        ("4294967296 numbers on, no bit stays", 100, u64::MAX, EDGE + 100),
+        ("4294967297 numbers on, no bit stays", EDGE + 100, u64::MAX, 2 * EDGE + 101),
+        ("one number late, across 9223372036854775808", 1 << 63, 1, (1 << 63) - 1),
+        ("a wide link, one number on, to the last there is", LAST - 1, 3, LAST),
+        ("a wide link, 64 numbers on, to the last there is", LAST - 64, u64::MAX, LAST),
+        ("a wide link, 63 numbers late, behind the last there is", LAST, 1, LAST - 63),
     ] {
         receiver.put_opened(remark, Window { highest, word }, sequence);
     }
@@ -213,7 +282,7 @@ fn opened(random: &mut Random) {
 
 fn words(answer: u32) -> &'static str {
     match answer {
-        BAD_RECORD => "a record has 24 to 280 bytes",
+        BAD_RECORD => "a record has 24 to 280 bytes, a wide one 28 to 284",
         OTHER_LINK => "the record is for another link",
         WRONG_TAG => "wrong tag: damaged, forged or under another key",
         REPEATED => "this number was accepted before",
@@ -237,104 +306,203 @@ fn retagged(record: &[u8], tag: &[u8]) -> Vec<u8> {
     [&record[..record.len() - 16], tag].concat()
 }
 
-fn refused(random: &mut Random) {
-    // Of 1 to 5 all but 4 were accepted.
-    const WINDOW: Window = Window { highest: 5, word: 0x1d };
-    const NEXT: u32 = WINDOW.highest + 1;
-    let keys = random.bytes(32);
-    let mut receiver = Receiver { kind: "refused", keys: keys.clone(), count: 0 };
-    let sealed = |link: u32, sequence: u32| links::plain_record(&keys, link, sequence, TIME_MARK);
-    let good = sealed(LINK, NEXT);
-    let bits = 8 * good.len();
-    let damaged = |sequence: u32| flipped(&sealed(LINK, sequence), bits - 1);
+fn refused(random: &mut Random, of_wide: &mut Random) {
+    let narrow = Receiver { kind: "refused", width: Width::Narrow, keys: random.bytes(32), count: 0 };
+    let count = refused_of_width(narrow, random);
+    let wide = Receiver { kind: "refused", width: Width::Wide, keys: of_wide.bytes(32), count };
+    refused_of_width(wide, of_wide);
+}
+
+/// Returns the number of the last group.
+fn refused_of_width(mut receiver: Receiver, random: &mut Random) -> usize {
+    // Of the last five numbers all but the fourth were accepted.
+    let window = Window { highest: receiver.width.start() + 5, word: 0x1d };
+    let next = window.highest + 1;
+    let good = receiver.sealed(LINK, next);
+    let (bits, head) = (8 * good.len(), receiver.width.head());
+    let damaged = |receiver: &Receiver, sequence: u64| flipped(&receiver.sealed(LINK, sequence), bits - 1);
 
     refused_numbers(&mut receiver);
-    receiver.put_refused("the highest number and a flipped bit of the tag", WINDOW, &damaged(5), REPEATED);
-    let far = Window { highest: 68, ..WINDOW };
-    receiver.put_refused("64 numbers late and a flipped bit of the tag", far, &damaged(4), BELOW_WINDOW);
+    let record = damaged(&receiver, window.highest);
+    receiver.put_refused("the highest number and a flipped bit of the tag", window, &record, REPEATED);
+    let record = damaged(&receiver, window.highest - 1);
+    let far = Window { highest: window.highest + 63, ..window };
+    receiver.put_refused("64 numbers late and a flipped bit of the tag", far, &record, BELOW_WINDOW);
 
     for (remark, record) in [
         ("the first bit of the tag is flipped", flipped(&good, bits - 128)),
         ("the last bit of the tag is flipped", flipped(&good, bits - 1)),
-        ("the first bit of the ciphertext is flipped", flipped(&good, 64)),
+        ("the first bit of the ciphertext is flipped", flipped(&good, 8 * head)),
         ("the last bit of the ciphertext is flipped", flipped(&good, bits - 129)),
-        ("the last bit of the sequence number is flipped, it is still above the highest", flipped(&good, 63)),
-        ("the first byte of the ciphertext is missing", [&good[..8], &good[9..]].concat()),
+        (
+            "the last bit of the sequence number is flipped, it is still above the highest",
+            flipped(&good, 8 * head - 1),
+        ),
+        ("the first byte of the ciphertext is missing", [&good[..head], &good[head + 1..]].concat()),
         ("the last byte of the tag is missing", good[..good.len() - 1].to_vec()),
         ("the tag is zeros", retagged(&good, &[0; 16])),
-        ("a late number that was not accepted yet, and a flipped bit of the tag", damaged(4)),
+        ("a late number that was not accepted yet, and a flipped bit of the tag", record),
     ] {
-        receiver.put_refused(remark, WINDOW, &record, WRONG_TAG);
+        receiver.put_refused(remark, window, &record, WRONG_TAG);
     }
-    for (remark, record) in wrongly_tagged(&keys, LINK, NEXT) {
-        receiver.put_refused(remark, WINDOW, &record, WRONG_TAG);
+    for (remark, record) in wrongly_tagged(&receiver, next) {
+        receiver.put_refused(remark, window, &record, WRONG_TAG);
     }
 
-    let other = sealed(LINK + 1, NEXT);
-    let worse = flipped(&sealed(LINK + 1, WINDOW.highest), bits - 1);
+    let other = receiver.sealed(LINK + 1, next);
+    let worse = flipped(&receiver.sealed(LINK + 1, window.highest), bits - 1);
     for (remark, record) in [
         ("a good record for another link", &other),
         ("the last bit of the link number is flipped", &flipped(&good, 31)),
         ("another link, the highest number and a flipped bit of the tag", &worse),
     ] {
-        receiver.put_refused(remark, WINDOW, record, OTHER_LINK);
+        receiver.put_refused(remark, window, record, OTHER_LINK);
     }
 
-    let empty = links::plain_record(&keys, LINK, NEXT, &[]);
-    let long = links::plain_record(&keys, LINK, NEXT, &random.bytes(257));
+    let sealed = |message: &[u8]| links::plain_record(&receiver.keys, LINK, receiver.width, next, message);
+    let (empty, long) = (sealed(&[]), sealed(&random.bytes(257)));
+    let (least, cut) = (receiver.width.added(), receiver.width.added() - 1);
     for (remark, record) in [
-        ("no bytes", &[][..]),
-        ("the first 23 bytes of a good record of 24", &empty[..23]),
-        ("the first 23 bytes of a record for another link", &other[..23]),
-        ("a message of 257 bytes, sealed in the same way", &long),
+        ("no bytes".to_string(), &[][..]),
+        (format!("the first {cut} bytes of a good record of {least}"), &empty[..cut]),
+        (format!("the first {cut} bytes of a record for another link"), &other[..cut]),
+        ("a message of 257 bytes, sealed in the same way".to_string(), &long),
     ] {
-        receiver.put_refused(remark, WINDOW, record, BAD_RECORD);
+        receiver.put_refused(&remark, window, record, BAD_RECORD);
     }
+    match receiver.width {
+        Width::Narrow => wide_to_narrow(&mut receiver, window),
+        Width::Wide => narrow_to_wide(&mut receiver, window),
+    }
+    receiver.count
 }
 
 /// Good records that are refused for their numbers.
 fn refused_numbers(receiver: &mut Receiver) {
-    for (remark, highest, word, sequence, answer) in [
-        ("a good record with the highest number: a replay", 5, 0x1d, 5, REPEATED),
-        ("a replay of number 1", 5, 0x1d, 1, REPEATED),
-        ("a replay one number late", 5, 0x1b, 4, REPEATED),
-        ("a replay 32 numbers late", 100, 0x0000_0001_0000_0001, 68, REPEATED),
-        ("a replay 63 numbers late", 100, 0x8000_0000_0000_0001, 37, REPEATED),
-        ("a replay 31 numbers late, all of the window were accepted", 100, u64::MAX, 69, REPEATED),
-        ("a replay one number late, across 2147483648", HALF, 3, HALF - 1, REPEATED),
-        ("a replay of the last number there is", u32::MAX, 1, u32::MAX, REPEATED),
-        ("number 0 on a new link", 0, 0, 0, BELOW_WINDOW),
-        ("number 0 after number 1", 1, 1, 0, BELOW_WINDOW),
-        ("number 0, less than 64 late, all others were accepted", 63, 0x7fff_ffff_ffff_ffff, 0, BELOW_WINDOW),
-        ("a good record 64 numbers late", 100, 1, 36, BELOW_WINDOW),
-        ("64 numbers late, all of the window were accepted", 100, u64::MAX, 36, BELOW_WINDOW),
-        ("65 numbers late", 100, 1, 35, BELOW_WINDOW),
-        ("128 numbers late", 200, 1, 72, BELOW_WINDOW),
-        ("64 numbers late, across 2147483648", HALF + 63, 1, HALF - 1, BELOW_WINDOW),
-        ("number 1 behind the last there is", u32::MAX, 1, 1, BELOW_WINDOW),
-    ] {
-        let record = links::plain_record(&receiver.keys, LINK, sequence, TIME_MARK);
+    let last = receiver.width.last();
+    let of_width = match receiver.width {
+        Width::Narrow => vec![
+            ("a good record with the highest number: a replay", 5, 0x1d, 5, REPEATED),
+            ("a replay of number 1", 5, 0x1d, 1, REPEATED),
+            ("a replay one number late", 5, 0x1b, 4, REPEATED),
+            ("a replay 32 numbers late", 100, 0x0000_0001_0000_0001, 68, REPEATED),
+            ("a replay 63 numbers late", 100, 0x8000_0000_0000_0001, 37, REPEATED),
+            ("a replay 31 numbers late, all of the window were accepted", 100, u64::MAX, 69, REPEATED),
+            ("a replay one number late, across 2147483648", HALF, 3, HALF - 1, REPEATED),
+            ("a replay of the last number there is", last, 1, last, REPEATED),
+            ("number 0 on a new link", 0, 0, 0, BELOW_WINDOW),
+            ("number 0 after number 1", 1, 1, 0, BELOW_WINDOW),
+            (
+                "number 0, less than 64 late, all others were accepted",
+                63,
+                0x7fff_ffff_ffff_ffff,
+                0,
+                BELOW_WINDOW,
+            ),
+            ("a good record 64 numbers late", 100, 1, 36, BELOW_WINDOW),
+            ("64 numbers late, all of the window were accepted", 100, u64::MAX, 36, BELOW_WINDOW),
+            ("65 numbers late", 100, 1, 35, BELOW_WINDOW),
+            ("128 numbers late", 200, 1, 72, BELOW_WINDOW),
+            ("64 numbers late, across 2147483648", HALF + 63, 1, HALF - 1, BELOW_WINDOW),
+            ("number 1 behind the last there is", last, 1, 1, BELOW_WINDOW),
+        ],
+        Width::Wide => vec![
+            ("a good record of a wide link with the highest number: a replay", 5, 0x1d, 5, REPEATED),
+            ("a replay of number 4294967296", EDGE, 3, EDGE, REPEATED),
+            ("a replay one number late, across 4294967296", EDGE, 3, EDGE - 1, REPEATED),
+            ("a replay 63 numbers late, across 4294967296", EDGE + 62, 1 << 63 | 1, EDGE - 1, REPEATED),
+            ("a wide link, a replay of the last number there is", last, 1, last, REPEATED),
+            ("number 0 on a new wide link", 0, 0, 0, BELOW_WINDOW),
+            ("number 0, the highest is 4294967296", EDGE, 1, 0, BELOW_WINDOW),
+            ("64 numbers late, across 4294967296", EDGE + 63, u64::MAX, EDGE - 1, BELOW_WINDOW),
+            ("4294967296 numbers late", EDGE + 5, 1, 5, BELOW_WINDOW),
+            ("4294967297 numbers late", EDGE + 6, 1, 5, BELOW_WINDOW),
+            ("a wide link, number 1 behind the last there is", last, 1, 1, BELOW_WINDOW),
+        ],
+    };
+    for (remark, highest, word, sequence, answer) in of_width {
+        let record = receiver.sealed(LINK, sequence);
         receiver.put_refused(remark, Window { highest, word }, &record, answer);
     }
 }
 
 /// Records as a sender makes them who has misread the definition.
-fn wrongly_tagged(keys: &[u8], link: u32, sequence: u32) -> [(&'static str, Vec<u8>); 4] {
-    let (ke, km) = links::two_keys(keys);
+fn wrongly_tagged(receiver: &Receiver, sequence: u64) -> [(&'static str, Vec<u8>); 4] {
+    let (ke, km) = links::two_keys(&receiver.keys);
     let encrypt = |block: &Block| cipher::encrypt(&km, block);
-    let good = links::plain_record(keys, link, sequence, TIME_MARK);
-    let head = &good[..good.len() - 16];
-    let exchanged = links::plain_record(&[km, ke].concat(), link, sequence, TIME_MARK);
-    let empty = links::plain_record(keys, link, sequence, &[]);
-    let counter = shares::counter_block(link, sequence, 0);
+    let good = receiver.sealed(LINK, sequence);
+    let before_tag = &good[..good.len() - 16];
+    let ciphertext = &before_tag[receiver.width.head()..];
+    let sealed =
+        |keys: &[u8], message: &[u8]| links::plain_record(keys, LINK, receiver.width, sequence, message);
+    let exchanged = sealed(&[km, ke].concat(), TIME_MARK);
+    let empty = sealed(&receiver.keys, &[]);
+    let counter = shares::counter_block(LINK, sequence, 0);
     let (_, k2) = modes::subkeys(encrypt);
     let by_k2 = encrypt(&modes::xor_blocks(&counter, &k2));
     [
-        ("the tag is made of the ciphertext alone", retagged(&good, &modes::cmac(encrypt, &head[8..]))),
-        ("the tag is made of the record's bytes before it", retagged(&good, &modes::cmac(encrypt, head))),
+        ("the tag is made of the ciphertext alone", retagged(&good, &modes::cmac(encrypt, ciphertext))),
+        (
+            "the tag is made of the record's bytes before it",
+            retagged(&good, &modes::cmac(encrypt, before_tag)),
+        ),
         ("KE and KM are exchanged", exchanged),
         ("an empty message, and K2 is used for its tag", retagged(&empty, &by_k2)),
     ]
+}
+
+/// Records of a wide link with the same number and keys, at a narrow one.
+fn wide_to_narrow(receiver: &mut Receiver, window: Window) {
+    let keys = receiver.keys.clone();
+    let next = window.highest + 1;
+    for (remark, sequence, message, answer) in [
+        ("a good record of a wide link, number 6", next, TIME_MARK, BELOW_WINDOW),
+        (
+            "a good record of a wide link, number 25769803776, which is 6 times 2^32",
+            next << 32,
+            TIME_MARK,
+            WRONG_TAG,
+        ),
+        ("a good record of a wide link, 284 bytes", next << 32, &[0x55; 256], BAD_RECORD),
+    ] {
+        let record = links::plain_record(&keys, LINK, Width::Wide, sequence, message);
+        receiver.put_refused(remark, window, &record, answer);
+    }
+}
+
+/// Records of a narrow link with the same number and keys, at a wide one, and records of a wide sender
+/// that has misread where its numbers stand.
+fn narrow_to_wide(receiver: &mut Receiver, window: Window) {
+    let keys = receiver.keys.clone();
+    let narrow =
+        |sequence: u64, message: &[u8]| links::plain_record(&keys, LINK, Width::Narrow, sequence, message);
+    let next = window.highest + 1;
+    receiver.put_refused(
+        "a good record of a narrow link, number 6",
+        window,
+        &narrow(6, TIME_MARK),
+        WRONG_TAG,
+    );
+    receiver.put_refused("a good record of a narrow link, 24 bytes", window, &narrow(6, &[]), BAD_RECORD);
+
+    let good = receiver.sealed(LINK, next);
+    let lower = next - EDGE;
+    let exchanged = lower << 32 | 1;
+    let with_head = |of: Vec<u8>, head: usize| [&good[..12], &of[head..]].concat();
+    let by_lower = with_head(narrow(lower, TIME_MARK), Width::Narrow.head());
+    let by_exchanged = with_head(receiver.sealed(LINK, exchanged), Width::Wide.head());
+    for (remark, record, answer) in [
+        ("the counter blocks have the lower half of the sequence number alone", by_lower, WRONG_TAG),
+        ("the counter blocks have the halves of the sequence number exchanged", by_exchanged, WRONG_TAG),
+        ("the first bit of the sequence number is flipped", flipped(&good, 32), WRONG_TAG),
+        (
+            "the last bit of the upper half of the sequence number is flipped",
+            flipped(&good, 63),
+            BELOW_WINDOW,
+        ),
+    ] {
+        receiver.put_refused(remark, window, &record, answer);
+    }
 }
 
 // ---- bodies
@@ -469,23 +637,25 @@ fn tape(seed: u32, length: usize) -> Vec<u8> {
 struct Shared {
     keys: Vec<u8>,
     link: u32,
-    last: u32,
+    width: Width,
+    last: u64,
     message: Vec<u8>,
     seed: u32,
 }
 
 impl Shared {
     fn put(&self, number: usize, remark: &str) {
-        let Shared { keys, link, last, message, seed } = self;
+        let Shared { keys, link, width, last, message, seed } = self;
         begin("shared", number, remark);
         field_blocks(&["ke_0", "ke_1", "ke_2", "km_0", "km_1", "km_2"], keys);
         field("link", link);
+        field("wide", *width as u8);
         field("last", last);
         field("message", Hex(message));
 
         let tape = tape(*seed, shares::tape_need(message.len()));
-        let sender = links::sending(*link, *last, keys);
-        let mut record = vec![0; message.len() + ADDED];
+        let sender = links::sending(*link, *width, *last, keys);
+        let mut record = vec![0; message.len() + width.added()];
         let mut tag = [0; SHARES];
         assert_eq!(links::seal(&mut sender.clone(), message, &tape, &mut record, &mut tag), 0);
         field("seed", seed);
@@ -515,24 +685,36 @@ impl Shared {
     }
 }
 
-fn shared(random: &mut Random) {
+fn shared(random: &mut Random, of_wide: &mut Random) {
+    const LAST: u64 = u32::MAX as u64;
     let keys = Vec::from_iter(0..96);
     let message = TIME_MARK.to_vec();
-    Shared { keys, link: 1, last: 0, message, seed: 1 }.put(1, "a time mark in ASCII");
-    for (i, (length, link, last)) in [
+    Shared { keys, link: 1, width: Width::Narrow, last: 0, message, seed: 1 }.put(1, "a time mark in ASCII");
+    let narrow = [
         (0, 2, 0),
         (1, 0, 1),
         (15, u32::MAX, 2),
         (16, 0x0102_0304, 0x0506_0707),
-        (17, 1, u32::MAX - 1),
+        (17, 1, LAST - 1),
         (33, 3, 0xffff),
         (256, u32::MAX, 0x7fff_ffff),
-    ]
-    .into_iter()
-    .enumerate()
-    {
-        let (keys, message) = (random.bytes(96), random.bytes(length));
-        let seed = random.number() as u32;
-        Shared { keys, link, last, message, seed }.put(i + 2, &format!("random, {length} bytes"));
-    }
+    ];
+    let wide = [
+        (30, 0x0102_0304, LAST),
+        (0, 2, 0),
+        (16, 1, LAST - 1),
+        (17, u32::MAX, 0x0506_0708_090a_0b0b),
+        (33, 3, u64::MAX - 1),
+    ];
+    let mut number = 1;
+    let mut put =
+        |random: &mut Random, width: Width, (length, link, last): (usize, u32, u64), remark: &str| {
+            let (keys, message) = (random.bytes(96), random.bytes(length));
+            let seed = random.number() as u32;
+            number += 1;
+            Shared { keys, link, width, last, message, seed }
+                .put(number, &format!("{remark}, {length} bytes"));
+        };
+    narrow.into_iter().for_each(|case| put(random, Width::Narrow, case, "random"));
+    wide.into_iter().for_each(|case| put(of_wide, Width::Wide, case, "a wide link, random"));
 }

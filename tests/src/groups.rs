@@ -3,20 +3,20 @@
 use crate::body::Mark;
 use crate::cipher::Block;
 use crate::hex;
-use crate::links::Window;
+use crate::links::{Width, Window};
 use std::str::FromStr;
 
 /// The kinds of groups, each with its fields. A [shared] group has lanes besides.
 const KINDS: [(&str, &str); 7] = [
     ("block", "key plaintext ciphertext"),
-    ("record", "ke km link sequence message counter_block key_stream l k1 k2 tag record"),
-    ("opened", "ke km link highest window record message highest_after window_after"),
-    ("refused", "ke km link highest window record answer words"),
+    ("record", "ke km link wide sequence message counter_block key_stream l k1 k2 tag record"),
+    ("opened", "ke km link wide highest window record message highest_after window_after"),
+    ("refused", "ke km link wide highest window record answer words"),
     ("body", "body seconds fraction offset values written"),
     ("refused_body", "body answer words"),
     (
         "shared",
-        "ke_0 ke_1 ke_2 km_0 km_1 km_2 link last message seed tape_first tape_last tape_count record \
+        "ke_0 ke_1 ke_2 km_0 km_1 km_2 link wide last message seed tape_first tape_last tape_count record \
          tag_0 tag_1 tag_2",
     ),
 ];
@@ -114,12 +114,17 @@ impl Group {
         Ok(Window { highest: self.number(highest)?, word: u64::from_be_bytes(self.bytes_of(word)?) })
     }
 
-    pub fn number(&self, name: &str) -> Result<u32, String> {
-        self.any_number(name)
+    /// The width of the link, 0 or 1.
+    pub fn width(&self) -> Result<Width, String> {
+        match self.number("wide")? {
+            0 => Ok(Width::Narrow),
+            1 => Ok(Width::Wide),
+            _ => Err(self.flaw("'wide' is neither 0 nor 1")),
+        }
     }
 
     /// A number of whatever range its type has.
-    fn any_number<N: FromStr + ToString>(&self, name: &str) -> Result<N, String> {
+    pub fn number<N: FromStr + ToString>(&self, name: &str) -> Result<N, String> {
         decimal(self.text(name)?).ok_or(self.flaw(&format!("'{name}' is not a number")))
     }
 
@@ -127,9 +132,9 @@ impl Group {
     pub fn mark(&self) -> Result<Mark, String> {
         let offset = match self.text("offset")? {
             "none" => None,
-            _ => Some(self.any_number("offset")?),
+            _ => Some(self.number("offset")?),
         };
-        let (seconds, fraction) = (self.any_number("seconds")?, self.number("fraction")?);
+        let (seconds, fraction) = (self.number("seconds")?, self.number("fraction")?);
         Ok(Mark { seconds, fraction, offset })
     }
 

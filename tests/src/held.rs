@@ -7,7 +7,9 @@ use crate::groups::{self, Group};
 use crate::keying::{keyed, RECEIVING, SENDING};
 use crate::lanes::Report;
 use crate::lent::hold_as;
-use crate::links::{self, Window, BAD_RECORD, BELOW_WINDOW, LANE, OTHER_LINK, REPEATED, SHARES, WRONG_TAG};
+use crate::links::{
+    self, Width, Window, BAD_RECORD, BELOW_WINDOW, LANE, OTHER_LINK, REPEATED, SHARES, WIDTHS, WRONG_TAG,
+};
 use crate::modes;
 use crate::opening::Open;
 use crate::plain::SealPlain;
@@ -23,10 +25,14 @@ extern "C" {
     fn words_of_answer(answer: u32) -> *const c_char;
 }
 
-/// What the file has to have: records with messages of these lengths, records opened so far above the
-/// highest number or below it, bodies with these offsets, these refusals, and lanes of these rounds.
+/// What the file has to have at both widths: records with messages of these lengths, records opened so
+/// far above the highest number or below it, these refusals, and lanes of these rounds. Then wide
+/// records with these numbers and refused ones of these lengths, and bodies with these offsets.
 pub const LENGTHS: [usize; 10] = [0, 1, 15, 16, 17, 31, 32, 33, 255, 256];
-const ABOVE: [i64; 6] = [-63, -1, 1, 32, 63, 64];
+const ABOVE: [i128; 6] = [-63, -1, 1, 32, 63, 64];
+pub const WIDE_NUMBERS: [u64; 5] =
+    [1, 4_294_967_295, 4_294_967_296, 18_446_744_073_709_551_614, 18_446_744_073_709_551_615];
+const WIDE_LENGTHS_REFUSED: [usize; 2] = [27, 285];
 const OFFSETS: [&str; 5] = ["none", "-720", "-1", "0", "840"];
 const REFUSALS: [u32; 5] = [BAD_RECORD, OTHER_LINK, BELOW_WINDOW, REPEATED, WRONG_TAG];
 const BODY_REFUSALS: [u32; 3] = [BAD_LENGTH, BAD_WORD, MISSING_KIND];
@@ -66,40 +72,79 @@ fn fail(tally: &mut Tally, flaw: &str) {
     tally.same_flag(format_args!("{flaw}"), false, true);
 }
 
+/// True if one of the groups is of this kind and as wanted.
+fn has(groups: &[&Group], kind: &str, wanted: impl Fn(&Group) -> bool) -> bool {
+    groups.iter().any(|group| group.kind == kind && wanted(group))
+}
+
 fn enough(tally: &mut Tally, groups: &[Group]) {
-    let has = |kind: &str, wanted: &dyn Fn(&Group) -> bool| {
-        groups.iter().any(|group| group.kind == kind && wanted(group))
-    };
-    tally.same_flag(format_args!("a block"), has("block", &|_| true), true);
-    for length in LENGTHS {
-        let found = has("record", &|group| group.bytes("message").is_ok_and(|bytes| bytes.len() == length));
-        tally.same_flag(format_args!("a record with a message of {length} bytes"), found, true);
+    let all = Vec::from_iter(groups);
+    tally.same_flag(format_args!("a block"), has(&all, "block", |_| true), true);
+    let of_width =
+        |width: Width| -> Vec<&Group> { groups.iter().filter(|group| group.width() == Ok(width)).collect() };
+    for width in WIDTHS {
+        enough_of_width(tally, width, &of_width(width));
     }
-    for above in ABOVE {
-        let found = has("opened", &|group| above_highest(group) == Ok(above));
-        tally.same_flag(format_args!("a record opened {above} above the highest number"), found, true);
-    }
-    for answer in REFUSALS {
-        let found = has("refused", &|group| group.number("answer") == Ok(answer));
-        tally.same_flag(format_args!("a record refused with {answer}"), found, true);
-    }
+    enough_wide(tally, &of_width(Width::Wide));
     for offset in OFFSETS {
-        let found = has("body", &|group| group.text("offset") == Ok(offset));
+        let found = has(&all, "body", |group| group.text("offset") == Ok(offset));
         tally.same_flag(format_args!("a body with the offset {offset}"), found, true);
     }
-    let found = has("body", &|group| group.text("body") != group.text("written"));
+    let found = has(&all, "body", |group| group.text("body") != group.text("written"));
     tally.same_flag(format_args!("a body that no writer makes"), found, true);
     for answer in BODY_REFUSALS {
-        let found = has("refused_body", &|group| group.number("answer") == Ok(answer));
+        let found = has(&all, "refused_body", |group| group.number("answer") == Ok(answer));
         tally.same_flag(format_args!("a body refused with {answer}"), found, true);
     }
-    for round in ROUNDS_SHOWN {
-        let shows = |group: &Group| {
-            group.lanes().is_ok_and(|lanes| lanes.iter().any(|([_, shown, _], _)| *shown == round))
-        };
-        let found = has("shared", &shows);
-        tally.same_flag(format_args!("a sealing on shares with a lane of round {round}"), found, true);
+}
+
+/// What has to be there at either width.
+fn enough_of_width(tally: &mut Tally, width: Width, groups: &[&Group]) {
+    for length in LENGTHS {
+        let found = has(groups, "record", |group| size_of(group, "message") == Ok(length));
+        tally.same_flag(format_args!("a {width:?} record with a message of {length} bytes"), found, true);
     }
+    for above in ABOVE {
+        let found = has(groups, "opened", |group| above_highest(group) == Ok(above));
+        tally.same_flag(format_args!("a {width:?} record opened {above} above the highest"), found, true);
+    }
+    for answer in REFUSALS {
+        let found = has(groups, "refused", |group| group.number("answer") == Ok(answer));
+        tally.same_flag(format_args!("a {width:?} link that refuses with {answer}"), found, true);
+    }
+    for round in ROUNDS_SHOWN {
+        let found = has(groups, "shared", |group| {
+            group.lanes().is_ok_and(|lanes| lanes.iter().any(|([_, shown, _], _)| *shown == round))
+        });
+        tally.same_flag(format_args!("a {width:?} sealing with a lane of round {round}"), found, true);
+    }
+}
+
+/// What has to be there of wide links besides.
+fn enough_wide(tally: &mut Tally, groups: &[&Group]) {
+    for number in WIDE_NUMBERS {
+        let found = has(groups, "record", |group| group.number("sequence") == Ok(number));
+        tally.same_flag(format_args!("a wide record with the number {number}"), found, true);
+    }
+    for length in WIDE_LENGTHS_REFUSED {
+        let found = has(groups, "refused", |group| size_of(group, "record") == Ok(length));
+        tally.same_flag(format_args!("a wide link that refuses {length} bytes"), found, true);
+    }
+    let is_beyond = |number: u64| number > Width::Narrow.last();
+    for is_late in [false, true] {
+        let found = has(groups, "opened", |group| {
+            let (highest, sequence) = (group.number("highest"), sequence_of(group));
+            highest.map(is_beyond) == Ok(is_late) && sequence.map(is_beyond) == Ok(!is_late)
+        });
+        tally.same_flag(format_args!("a record opened across 32 bits, late: {is_late}"), found, true);
+    }
+    let found = has(groups, "shared", |group| group.number("last") == Ok(Width::Narrow.last()));
+    tally.same_flag(format_args!("a sealing on shares that goes past 32 bits"), found, true);
+}
+
+/// How many bytes a field has.
+fn size_of(group: &Group, name: &str) -> Result<usize, String> {
+    Ok(group.bytes(name)?.len())
 }
 
 /// An output before a call.
@@ -121,7 +166,8 @@ fn record(tally: &mut Tally, group: &Group) -> Result<(), String> {
     let keys = [group.block("ke")?, group.block("km")?].concat();
     let (number, sequence) = (group.number("link")?, group.number("sequence")?);
     let (message, record) = (group.bytes("message")?, group.bytes("record")?);
-    let before = SealPlain { keys, number, sequence, message, record: room(record.len()) };
+    let wide = group.width()? as u32;
+    let before = SealPlain { keys, number, wide, sequence, message, record: room(record.len()) };
     let after = SealPlain { record, ..before.clone() };
     hold_as(tally, &before, 0, &after, group.number);
     hold_opened(tally, &after, group.number);
@@ -130,10 +176,11 @@ fn record(tally: &mut Tally, group: &Group) -> Result<(), String> {
 
 /// A receiver opens the record, and refuses it the second time.
 fn hold_opened(tally: &mut Tally, sealed: &SealPlain, shift: usize) {
-    let SealPlain { keys, number, sequence, message, record } = sealed;
-    let link = keyed(tally, &RECEIVING, *number, keys);
+    let SealPlain { keys, number, wide, sequence, message, record } = sealed;
+    let width = Width::told(*wide);
+    let link = keyed(tally, &RECEIVING, *number, width, keys);
     let before = Open { link, record: record.clone(), message: room(message.len()) };
-    let link = links::receiving(*number, Window { highest: *sequence, word: 1 }, keys);
+    let link = links::receiving(*number, width, Window { highest: *sequence, word: 1 }, keys);
     let after = Open { link, message: message.clone(), ..before.clone() };
     let opened = hold_as(tally, &before, 0, &after, shift).left;
     let again = Open { message: room(message.len()), ..opened };
@@ -149,7 +196,8 @@ fn hold_steps(tally: &mut Tally, group: &Group, sealed: &SealPlain) -> Result<()
     tally.same(format_args!("counter_block, {what}"), &counter, &expected);
     hold_both_ways(tally, &ke, &counter, &stream, group.number);
     let first = modes::xor(&stream, &sealed.message);
-    let in_record = sealed.record.get(8..8 + first.len()).unwrap_or(&[]);
+    let at = Width::told(sealed.wide).head();
+    let in_record = sealed.record.get(at..at + first.len()).unwrap_or(&[]);
     tally.same(format_args!("ciphertext by key_stream, {what}"), &first, in_record);
 
     let (l, k1, k2) = (group.block("l")?, group.block("k1")?, group.block("k2")?);
@@ -170,19 +218,27 @@ fn hold_tag(tally: &mut Tally, what: &str, tag: &[u8], record: &[u8]) {
 /// The receiver of a group and the record that it is offered.
 fn offered(tally: &mut Tally, group: &Group) -> Result<Open, String> {
     let keys = [group.block("ke")?, group.block("km")?].concat();
-    let mut link = keyed(tally, &RECEIVING, group.number("link")?, &keys);
+    let width = group.width()?;
+    let mut link = keyed(tally, &RECEIVING, group.number("link")?, width, &keys);
     links::set_window(&mut link, group.window("highest", "window")?);
     let record = group.bytes("record")?;
-    let message = room(record.len().saturating_sub(links::ADDED));
+    let message = room(record.len().saturating_sub(width.added()));
     Ok(Open { link, record, message })
 }
 
-/// How far the number of a group's record is above the receiver's highest.
-fn above_highest(group: &Group) -> Result<i64, String> {
-    let record = group.bytes("record")?;
-    let sequence = record.get(4..8).and_then(|bytes| bytes.try_into().ok());
-    let sequence = sequence.map(u32::from_be_bytes).ok_or("no sequence number")?;
-    Ok(i64::from(sequence) - i64::from(group.number("highest")?))
+/// The number of a group's record.
+fn sequence_of(group: &Group) -> Result<u64, String> {
+    let (width, record) = (group.width()?, group.bytes("record")?);
+    if record.len() < width.head() {
+        return Err("no sequence number".to_string());
+    }
+    Ok(width.sequence(&record))
+}
+
+/// How far it is above the receiver's highest.
+fn above_highest(group: &Group) -> Result<i128, String> {
+    let highest: u64 = group.number("highest")?;
+    Ok(i128::from(sequence_of(group)?) - i128::from(highest))
 }
 
 fn opened(tally: &mut Tally, group: &Group) -> Result<(), String> {
@@ -252,27 +308,28 @@ fn shared(tally: &mut Tally, group: &Group) -> Result<(), String> {
     };
     let keys = blocks(&["ke_0", "ke_1", "ke_2", "km_0", "km_1", "km_2"])?;
     let tag_shares = blocks(&["tag_0", "tag_1", "tag_2"])?;
-    let (number, last) = (group.number("link")?, group.number("last")?);
-    let sequence = last.checked_add(1).ok_or(format!("{what}: no number is left"))?;
+    let (number, width, last) = (group.number("link")?, group.width()?, group.number("last")?);
+    let sequence = u64::checked_add(last, 1).ok_or(format!("{what}: no number is left"))?;
     let (message, record) = (group.bytes("message")?, group.bytes("record")?);
     let tape = tape(group.number("seed")?, shares::tape_need(message.len()));
     tally.same(format_args!("tape_first, {what}"), &tape[..16], &group.block("tape_first")?);
     tally.same(format_args!("tape_last, {what}"), &tape[tape.len() - 16..], &group.block("tape_last")?);
 
-    let mut link = keyed(tally, &SENDING, number, &keys);
+    let mut link = keyed(tally, &SENDING, number, width, &keys);
     links::set_last(&mut link, last);
     let before = Seal { link, message, tape, record: room(record.len()), shares: room(SHARES) };
-    let written = [&tag_shares[..], &group.number("tape_count")?.to_be_bytes()].concat();
-    let link = links::sending(number, sequence, &keys);
+    let tape_count: u32 = group.number("tape_count")?;
+    let written = [&tag_shares[..], &tape_count.to_be_bytes()].concat();
+    let link = links::sending(number, width, sequence, &keys);
     let after = Seal { link, record, shares: written, ..before.clone() };
     hold_as(tally, &before, 0, &after, group.number);
     hold_lanes(tally, group, &before)?;
 
     let [a, b, c] = std::array::from_fn(|i| &tag_shares[16 * i..16 * i + 16]);
     hold_tag(tally, &what, &modes::xor(&modes::xor(a, b), c), &after.record);
-    let keys = links::joined_keys(&keys);
+    let (keys, wide) = (links::joined_keys(&keys), width as u32);
     let Seal { message, record, .. } = after;
-    hold_opened(tally, &SealPlain { keys, number, sequence, message, record }, group.number);
+    hold_opened(tally, &SealPlain { keys, number, wide, sequence, message, record }, group.number);
     Ok(())
 }
 

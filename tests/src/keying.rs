@@ -1,7 +1,7 @@
 //! Keying: `rasppuce_key_sender` and `rasppuce_key_receiver`.
 
 use crate::lent::{hold_answer, Call, Lent};
-use crate::links::{self, BAD_KEYS, RECEIVER, RECEIVER_KEYS, SENDER, SENDER_KEYS};
+use crate::links::{self, Width, BAD_KEYS, RECEIVER, RECEIVER_KEYS, SENDER, SENDER_KEYS, TOLD};
 use crate::tally::Tally;
 
 extern "C" {
@@ -9,6 +9,7 @@ extern "C" {
         link: *mut u8,
         link_len: usize,
         number: u32,
+        wide: u32,
         keys: *const u8,
         keys_len: usize,
     ) -> u32;
@@ -16,6 +17,7 @@ extern "C" {
         link: *mut u8,
         link_len: usize,
         number: u32,
+        wide: u32,
         keys: *const u8,
         keys_len: usize,
     ) -> u32;
@@ -24,8 +26,8 @@ extern "C" {
 /// One of the two: its function, what it has to do, and the lengths of link and keys that it takes.
 pub struct Side {
     name: &'static str,
-    call: unsafe extern "C" fn(*mut u8, usize, u32, *const u8, usize) -> u32,
-    own: fn(&mut [u8], u32, &[u8]) -> u32,
+    call: unsafe extern "C" fn(*mut u8, usize, u32, u32, *const u8, usize) -> u32,
+    own: fn(&mut [u8], u32, u32, &[u8]) -> u32,
     link: usize,
     keys: usize,
 }
@@ -51,6 +53,7 @@ pub struct Key {
     pub side: &'static Side,
     pub link: Vec<u8>,
     pub number: u32,
+    pub wide: u32,
     pub keys: Vec<u8>,
 }
 
@@ -64,32 +67,32 @@ impl Call for Key {
     }
 
     fn numbers(&self) -> Vec<(&'static str, i128)> {
-        vec![("number", self.number.into())]
+        vec![("number", self.number.into()), ("wide", self.wide.into())]
     }
 
     unsafe fn make(&self, lent: &[Lent]) -> u32 {
         let [link, keys] = lent else { panic!("two slices") };
-        (self.side.call)(link.pointer, link.length, self.number, keys.pointer, keys.length)
+        (self.side.call)(link.pointer, link.length, self.number, self.wide, keys.pointer, keys.length)
     }
 
     fn own(&mut self) -> u32 {
-        (self.side.own)(&mut self.link, self.number, &self.keys)
+        (self.side.own)(&mut self.link, self.number, self.wide, &self.keys)
     }
 }
 
 /// A link that was all zeros, as the C call keys it.
-pub fn keyed(tally: &mut Tally, side: &'static Side, number: u32, keys: &[u8]) -> Vec<u8> {
-    let call = Key { side, link: vec![0; side.link], number, keys: keys.to_vec() };
+pub fn keyed(tally: &mut Tally, side: &'static Side, number: u32, width: Width, keys: &[u8]) -> Vec<u8> {
+    let call = Key { side, link: vec![0; side.link], number, wide: width as u32, keys: keys.to_vec() };
     hold_answer(tally, &call, 0, 0).left.link
 }
 
 /// Holds both calls on links and keys of these lengths, whatever stood in the link before.
-fn hold_both(tally: &mut Tally, link: usize, keys: usize, number: u32) {
+fn hold_both(tally: &mut Tally, link: usize, keys: usize, number: u32, wide: u32) {
     let mut random = tally.random_for(1000 * link + keys);
     let (link, keys) = (random.bytes(link), random.bytes(keys));
     for side in [&SENDING, &RECEIVING] {
         let fits = link.len() == side.link && keys.len() == side.keys;
-        let call = Key { side, link: link.clone(), number, keys: keys.clone() };
+        let call = Key { side, link: link.clone(), number, wide, keys: keys.clone() };
         hold_answer(tally, &call, if fits { 0 } else { BAD_KEYS }, random.number() as usize);
     }
 }
@@ -99,13 +102,15 @@ pub fn lengths(tally: &mut Tally) {
     let mut number = 0u32;
     for link in 0..=130 {
         for keys in 0..=130 {
-            hold_both(tally, link, keys, number);
+            hold_both(tally, link, keys, number, TOLD[(link + keys) % TOLD.len()]);
             number = number.wrapping_add(0x0101_0107);
         }
     }
-    for link in [49, 105, 256 + 49, 256 + 105, 65_536 + 49, 65_536 + 105] {
+    for link in [49, 53, 54, 55, 105, 109, 110, 111, 256 + 54, 256 + 110, 65_536 + 54, 65_536 + 110] {
         for keys in [32, 96, 256 + 32, 256 + 96, 65_536 + 32, 65_536 + 96] {
-            hold_both(tally, link, keys, 7);
+            for wide in TOLD {
+                hold_both(tally, link, keys, 7, wide);
+            }
         }
     }
 }
@@ -119,14 +124,36 @@ pub fn links(tally: &mut Tally) {
             for byte in 0..=255 {
                 let mut link = random.bytes(side.link);
                 link[0] = byte;
-                let call = Key { side, link, number, keys: random.bytes(side.keys) };
+                let wide = TOLD[usize::from(byte) % TOLD.len()];
+                let call = Key { side, link, number, wide, keys: random.bytes(side.keys) };
                 hold_answer(tally, &call, 0, random.number() as usize);
             }
         }
+    }
+}
+
+/// What keying makes of a fresh link, whatever number tells the width, and of one with any last byte.
+pub fn widths(tally: &mut Tally) {
+    for side in [&SENDING, &RECEIVING] {
         let keys = vec![9; side.keys];
-        let mut expected = [&[1, 0, 0, 0, 5, 0, 0, 0, 0], &keys[..]].concat();
-        expected.resize(side.link, 0);
-        let keyed = keyed(tally, side, 5, &keys);
-        tally.same(format_args!("a fresh link, keyed by {}", side.name), &keyed, &expected);
+        let mut narrow = [&[1, 0, 0, 0, 5, 0, 0, 0, 0, 0, 0, 0, 0], &keys[..]].concat();
+        narrow.resize(side.link, 0);
+        let mut wide = narrow.clone();
+        wide[side.link - 1] = 1;
+        for told in TOLD {
+            let expected = if told == 0 { &narrow } else { &wide };
+            for before in links::WIDTH_BYTES {
+                let mut link = vec![0; side.link];
+                links::set_width_byte(&mut link, before);
+                let call = Key { side, link, number: 5, wide: told, keys: keys.clone() };
+                let left = hold_answer(tally, &call, 0, usize::from(before)).left.link;
+                tally.same(format_args!("a link told {told}, {}", side.name), &left, expected);
+            }
+        }
+        for bit in 0..32 {
+            let call = Key { side, link: vec![0; side.link], number: 5, wide: 1 << bit, keys: keys.clone() };
+            let left = hold_answer(tally, &call, 0, bit).left.link;
+            tally.same(format_args!("a link told bit {bit}, {}", side.name), &left, &wide);
+        }
     }
 }

@@ -3,11 +3,11 @@
 use crate::cipher::{self, Block, ROUNDS};
 use crate::lent::{hold_answer, hold_as, hold_order, Call, Lent};
 use crate::links::{
-    self, Sender, BAD_CALL, BAD_LANE, BAD_ROUND, LANE, LONG_MESSAGE, NOT_KEYED, NUMBERS_USED, SENDER,
-    SENDER_KEYS, SHARES, SHORT_OUTPUT, SHORT_TAPE,
+    self, Sender, Width, BAD_CALL, BAD_LANE, BAD_ROUND, LANE, LONG_MESSAGE, NOT_KEYED, NUMBERS_USED, SENDER,
+    SENDER_KEYS, SEQUENCES, SHARES, SHORT_OUTPUT, SHORT_TAPE, WIDTHS, WIDTH_BYTES,
 };
 use crate::modes::{self, xor_blocks};
-use crate::sealing::Seal;
+use crate::sealing::{answer_to_link, Seal};
 use crate::shares::{self, Lane, PAIRS};
 use crate::tally::Tally;
 
@@ -80,10 +80,11 @@ impl Call for Report {
 }
 
 /// An acceptable call with no byte to spare.
-fn good(tally: &Tally, length: usize, number: usize) -> Report {
+fn good(tally: &Tally, width: Width, length: usize, number: usize) -> Report {
     let mut random = tally.random_for(1000 * number + length);
+    let last = width.some_sequence(&mut random) - 1;
     Report {
-        link: links::sending(random.number() as u32, random.below(1000) as u32, &random.bytes(SENDER_KEYS)),
+        link: links::sending(random.number() as u32, width, last, &random.bytes(SENDER_KEYS)),
         message: random.bytes(length),
         tape: random.bytes(shares::tape_need(length)),
         call: 1,
@@ -101,11 +102,20 @@ fn sender(report: &Report) -> Sender {
 /// the lane of these tests. Then what the three lanes of a round have to do with each other and
 /// with the plain cipher, and how the rounds hang together, all on the bytes that were reported.
 pub fn every_lane(tally: &mut Tally) {
-    for length in [0, 1, 16, 17, 48] {
-        let good = good(tally, length, 0);
+    for (width, length) in [
+        (Width::Narrow, 0),
+        (Width::Wide, 0),
+        (Width::Narrow, 1),
+        (Width::Wide, 16),
+        (Width::Narrow, 17),
+        (Width::Wide, 17),
+        (Width::Narrow, 48),
+        (Width::Wide, 48),
+    ] {
+        let good = good(tally, width, length, 0);
         let link = sender(&good);
         let sealing = links::next_sealing(&link, &good.message, &good.tape);
-        let keys = links::joined_keys(&good.link[9..]);
+        let keys = links::receiver_keys(&good.link);
         let plain = links::plain_calls(&keys, link.number, link.last + 1, &good.message);
         tally.same_number(
             format_args!("plain calls, {length} bytes"),
@@ -187,29 +197,37 @@ fn hold_onward(
 /// its last call, each with its mask of pair 36. They are the state shares that round 36 shows, two in
 /// each lane.
 pub fn tag_shares(tally: &mut Tally) {
-    for length in links::EDGES {
-        let good = good(tally, length, 1);
-        let seal = Seal {
-            link: good.link.clone(),
-            message: good.message.clone(),
-            tape: good.tape.clone(),
-            record: vec![0; length + links::ADDED],
-            shares: vec![0; SHARES],
-        };
-        let sealed = hold_answer(tally, &seal, 0, length).left.shares;
-        let returned = |i: usize| &sealed[16 * (i % 3)..][..16];
-        let last = shares::call_count(length);
-        let masks = masks(&good.tape, last, 36);
-        for i in 0..3 {
-            let call = Report { call: last as u32, round: 35, lane: i as u32, ..good.clone() };
-            let out = hold_answer(tally, &call, 0, length).left.out;
-            let made = shares::share_of_lane(i, 35, &out.try_into().unwrap());
-            let share = xor_blocks(&made, &masks[i]);
-            tally.same(format_args!("tag share {i}, {length} bytes"), returned(i), &share);
-            let out = hold_answer(tally, &Report { round: 36, ..call }, 0, length).left.out;
-            let two = [returned(i + 1), returned(i + 2)].concat();
-            tally.same(format_args!("tag shares in lane {i}, {length} bytes"), &out[..32], &two);
+    for width in WIDTHS {
+        for length in links::EDGES {
+            hold_tag_shares(tally, &good(tally, width, length, 1));
         }
+    }
+}
+
+fn hold_tag_shares(tally: &mut Tally, good: &Report) {
+    let Sender { width, last, .. } = sender(good);
+    let length = good.message.len();
+    let seal = Seal {
+        link: good.link.clone(),
+        message: good.message.clone(),
+        tape: good.tape.clone(),
+        record: vec![0; length + width.added()],
+        shares: vec![0; SHARES],
+    };
+    let sealed = hold_answer(tally, &seal, 0, length).left.shares;
+    let returned = |i: usize| &sealed[16 * (i % 3)..][..16];
+    let call = shares::call_count(length);
+    let masks = masks(&good.tape, call, 36);
+    for i in 0..3 {
+        let what = format!("{width:?}, last {last}, {length} bytes");
+        let call = Report { call: call as u32, round: 35, lane: i as u32, ..good.clone() };
+        let out = hold_answer(tally, &call, 0, length).left.out;
+        let made = shares::share_of_lane(i, 35, &out.try_into().unwrap());
+        let share = xor_blocks(&made, &masks[i]);
+        tally.same(format_args!("tag share {i}, {what}"), returned(i), &share);
+        let out = hold_answer(tally, &Report { round: 36, ..call }, 0, length).left.out;
+        let two = [returned(i + 1), returned(i + 2)].concat();
+        tally.same(format_args!("tag shares in lane {i}, {what}"), &out[..32], &two);
     }
 }
 
@@ -218,118 +236,159 @@ pub fn tag_shares(tally: &mut Tally) {
 /// is taken by that of its block, cut to the block's bytes; the subkeys by the last one, doubled; a call
 /// of the chain by the next.
 pub fn later_calls(tally: &mut Tally) {
-    for length in [0, 1, 15, 16, 17, 48] {
-        let first = good(tally, length, 5);
-        let blocks = length.div_ceil(16);
-        let last = shares::call_count(length);
-        for call in 1..last {
-            let mut other = first.clone();
-            put(&mut other.tape, shares::masks_at(call, 36), &tally.random_for(call).bytes(32));
-            let (old, new) = (masks(&first.tape, call, 36), masks(&other.tape, call, 36));
-            let change = |i: usize| -> Block {
-                let mut change = xor_blocks(&old[i % 3], &new[i % 3]);
-                if call <= blocks {
-                    let size = length - 16 * (call - 1);
-                    change.iter_mut().skip(size).for_each(|byte| *byte = 0);
-                } else if call == blocks + 1 {
-                    change = modes::doubled(&change);
-                    if length % 16 != 0 {
-                        change = modes::doubled(&change);
-                    }
-                }
-                change
-            };
-            let taker = match call {
-                _ if call <= blocks => blocks + 2 + call,
-                _ if call == blocks + 1 => last,
-                _ => call + 1,
-            };
-            for lane in 0..3 {
-                let at = |report: &Report| Report { call: taker as u32, lane, ..report.clone() };
-                let shown = hold_answer(tally, &at(&first), 0, call).left.out;
-                let changed = hold_answer(tally, &at(&other), 0, call).left.out;
-                let lane = lane as usize;
-                let changes = [change(lane + 1), change(lane + 2), [0; 16]].concat();
-                tally.same(
-                    format_args!("call {taker} with other masks on call {call}, {length} bytes, lane {lane}"),
-                    &changed,
-                    &modes::xor(&shown, &changes),
-                );
+    for width in WIDTHS {
+        for length in [0, 1, 15, 16, 17, 48] {
+            for call in 1..shares::call_count(length) {
+                hold_later_call(tally, &good(tally, width, length, 5), call);
             }
         }
+    }
+}
+
+/// Another pair 36 on this call of the sealing that `first` reports.
+fn hold_later_call(tally: &mut Tally, first: &Report, call: usize) {
+    let length = first.message.len();
+    let blocks = length.div_ceil(16);
+    let mut other = first.clone();
+    put(&mut other.tape, shares::masks_at(call, 36), &tally.random_for(call).bytes(32));
+    let (old, new) = (masks(&first.tape, call, 36), masks(&other.tape, call, 36));
+    let change = |i: usize| -> Block {
+        let mut change = xor_blocks(&old[i % 3], &new[i % 3]);
+        if call <= blocks {
+            let size = length - 16 * (call - 1);
+            change.iter_mut().skip(size).for_each(|byte| *byte = 0);
+        } else if call == blocks + 1 {
+            change = modes::doubled(&change);
+            if length % 16 != 0 {
+                change = modes::doubled(&change);
+            }
+        }
+        change
+    };
+    let taker = match call {
+        _ if call <= blocks => blocks + 2 + call,
+        _ if call == blocks + 1 => shares::call_count(length),
+        _ => call + 1,
+    };
+    for lane in 0..3 {
+        let at = |report: &Report| Report { call: taker as u32, lane, ..report.clone() };
+        let shown = hold_answer(tally, &at(first), 0, call).left.out;
+        let changed = hold_answer(tally, &at(&other), 0, call).left.out;
+        let lane = lane as usize;
+        let changes = [change(lane + 1), change(lane + 2), [0; 16]].concat();
+        tally.same(
+            format_args!("call {taker} with other masks on call {call}, {length} bytes, lane {lane}"),
+            &changed,
+            &modes::xor(&shown, &changes),
+        );
     }
 }
 
 /// Calls, rounds and lanes at the ends of their ranges and out of them, with each other: of the wrong
 /// ones, the call has its number first, then the round.
 pub fn ranges(tally: &mut Tally) {
-    for length in [0, 1, 16, 17, 33] {
-        let good = good(tally, length, 2);
-        let calls = shares::call_count(length) as u32;
-        for call in
-            [0, 1, 2, calls - 1, calls, calls + 1, calls + 2, 256 + 1, 65_536 + 1, 0x8000_0001, u32::MAX]
-        {
-            for round in [0, 1, 2, 34, 35, 36, 37, 38, 256 + 1, 65_536 + 1, 0x8000_0001, u32::MAX] {
-                for lane in [0, 1, 2, 3, 4, 256, 65_536, 0x8000_0000, u32::MAX] {
-                    let answer = match (call, round, lane) {
-                        _ if !(1..=calls).contains(&call) => BAD_CALL,
-                        (_, 1..=36, 0..=2) => 0,
-                        (_, 1..=36, _) => BAD_LANE,
-                        _ => BAD_ROUND,
-                    };
-                    let call = Report { call, round, lane, ..good.clone() };
-                    hold_answer(tally, &call, answer, lane as usize);
-                }
+    for width in WIDTHS {
+        for length in [0, 1, 16, 17, 33] {
+            hold_ranges(tally, &good(tally, width, length, 2));
+        }
+    }
+}
+
+fn hold_ranges(tally: &mut Tally, good: &Report) {
+    let calls = shares::call_count(good.message.len()) as u32;
+    for call in [0, 1, 2, calls - 1, calls, calls + 1, calls + 2, 256 + 1, 65_536 + 1, 0x8000_0001, u32::MAX]
+    {
+        for round in [0, 1, 2, 34, 35, 36, 37, 38, 256 + 1, 65_536 + 1, 0x8000_0001, u32::MAX] {
+            for lane in [0, 1, 2, 3, 4, 256, 65_536, 0x8000_0000, u32::MAX] {
+                let answer = match (call, round, lane) {
+                    _ if !(1..=calls).contains(&call) => BAD_CALL,
+                    (_, 1..=36, 0..=2) => 0,
+                    (_, 1..=36, _) => BAD_LANE,
+                    _ => BAD_ROUND,
+                };
+                let call = Report { call, round, lane, ..good.clone() };
+                hold_answer(tally, &call, answer, lane as usize);
             }
         }
     }
 }
 
-/// Outputs, tapes, links and messages of other lengths, and other last numbers. The tape that would do
-/// for 35 pairs a call is too short.
+/// Outputs, tapes, links and messages of other lengths, and links of other first and last bytes. The
+/// tape that would do for 35 pairs a call is too short.
 pub fn lengths(tally: &mut Tally) {
-    for (length, need) in links::NEEDS {
-        let good = good(tally, length, 3);
-        for room in (0..=60).chain([96, 256 + 47, 256 + 48, 65_536 + 47]) {
-            let call = Report { out: tally.random_for(room).bytes(room), ..good.clone() };
-            hold_answer(tally, &call, if room < LANE { SHORT_OUTPUT } else { 0 }, room);
+    for width in WIDTHS {
+        for (length, need) in links::NEEDS {
+            hold_outputs_and_tapes(tally, &good(tally, width, length, 3), need);
         }
-        let less = 64 + 1120 * shares::call_count(length);
-        for size in
-            [0, 1, 64, less, need - 1152, need - 32, need - 1, need, need + 1, need + 1152, need + 70_000]
-        {
+        for length in [257, 258, 272, 300, 512, 65_536, 65_792] {
+            hold_answer(tally, &good(tally, width, length, 3), LONG_MESSAGE, length);
+        }
+        let good = good(tally, width, 9, 3);
+        for size in (0..=130).chain([256 + 110, 65_536 + 110]) {
             let mut call = good.clone();
-            call.tape.resize(size, 9);
-            hold_answer(tally, &call, if size < need { SHORT_TAPE } else { 0 }, size);
+            call.link.resize(size, 1);
+            hold_answer(tally, &call, if size == SENDER { 0 } else { NOT_KEYED }, size);
+        }
+        for byte in 0..=255 {
+            let mut call = good.clone();
+            call.link[0] = byte;
+            hold_answer(tally, &call, if byte == 1 { 0 } else { NOT_KEYED }, byte as usize);
+        }
+        for byte in 2..=255 {
+            let mut call = good.clone();
+            links::set_width_byte(&mut call.link, byte);
+            hold_answer(tally, &call, NOT_KEYED, byte as usize);
         }
     }
-    for length in [257, 258, 272, 300, 512, 65_536, 65_792] {
-        hold_answer(tally, &good(tally, length, 3), LONG_MESSAGE, length);
+}
+
+fn hold_outputs_and_tapes(tally: &mut Tally, good: &Report, need: usize) {
+    for room in (0..=60).chain([96, 256 + 47, 256 + 48, 65_536 + 47]) {
+        let call = Report { out: tally.random_for(room).bytes(room), ..good.clone() };
+        hold_answer(tally, &call, if room < LANE { SHORT_OUTPUT } else { 0 }, room);
     }
-    let good = good(tally, 9, 3);
-    for size in (0..=130).chain([256 + 105, 65_536 + 105]) {
+    let less = 64 + 1120 * shares::call_count(good.message.len());
+    for size in [0, 1, 64, less, need - 1152, need - 32, need - 1, need, need + 1, need + 1152, need + 70_000]
+    {
         let mut call = good.clone();
-        call.link.resize(size, 1);
-        hold_answer(tally, &call, if size == SENDER { 0 } else { NOT_KEYED }, size);
+        call.tape.resize(size, 9);
+        hold_answer(tally, &call, if size < need { SHORT_TAPE } else { 0 }, size);
     }
-    for byte in 0..=255 {
-        let mut call = good.clone();
-        call.link[0] = byte;
-        hold_answer(tally, &call, if byte == 1 { 0 } else { NOT_KEYED }, byte as usize);
-    }
-    for last in [0, 1, 255, 256, 0x7fff_ffff, u32::MAX - 2, u32::MAX - 1, u32::MAX] {
-        let mut call = good.clone();
-        links::set_last(&mut call.link, last);
-        hold_answer(tally, &call, if last == u32::MAX { NUMBERS_USED } else { 0 }, 0);
+}
+
+/// Last numbers at the ends of their range, with any last byte. Call 1 of a message has counter block 0
+/// as its input: joined, the state on entering round 1 is that block with KE, the sequence number in
+/// eight bytes at either width.
+pub fn numbers(tally: &mut Tally) {
+    for byte in WIDTH_BYTES {
+        let width = if byte == 0 { Width::Narrow } else { Width::Wide };
+        for last in SEQUENCES {
+            let mut call = good(tally, width, 20, 6);
+            links::set_last(&mut call.link, last);
+            links::set_width_byte(&mut call.link, byte);
+            let known = answer_to_link(byte, last);
+            let state_shares = [0, 1, 2].map(|lane| -> Block {
+                let call = Report { lane, ..call.clone() };
+                let out = hold_answer(tally, &call, known, lane as usize).left.out;
+                out[..16].try_into().unwrap()
+            });
+            if known == 0 {
+                let number = &call.link[1..5];
+                let counter = [number, &(last + 1).to_be_bytes(), &[0; 4]].concat();
+                let state = modes::xor(&counter, &links::receiver_keys(&call.link));
+                let joined = shares::join(&state_shares);
+                tally.same(format_args!("joined state, {width:?}, last {last}"), &joined, &state);
+            }
+        }
     }
 }
 
 /// The refusals, alone and together.
 pub fn refusals(tally: &mut Tally) {
-    for length in [0, 17] {
+    for (width, length) in [(Width::Narrow, 0), (Width::Wide, 17)] {
         hold_order(
             tally,
-            &good(tally, length, 4),
+            &good(tally, width, length, 4),
             &[
                 (
                     NOT_KEYED,
@@ -337,11 +396,16 @@ pub fn refusals(tally: &mut Tally) {
                         |call| call.link[0] = 0,
                         |call| call.link[0] = 2,
                         |call| call.link.clear(),
-                        |call| call.link.truncate(104),
+                        |call| call.link.truncate(105),
                         |call| call.link.push(0),
+                        |call| links::set_width_byte(&mut call.link, 2),
+                        |call| {
+                            links::set_width_byte(&mut call.link, 0);
+                            links::set_last(&mut call.link, 1 << 32);
+                        },
                     ],
                 ),
-                (NUMBERS_USED, &[|call| links::set_last(&mut call.link, u32::MAX)]),
+                (NUMBERS_USED, &[|call| links::set_at_end(&mut call.link)]),
                 (LONG_MESSAGE, &[|call| call.message.resize(257, 1), |call| call.message.resize(65_536, 3)]),
                 (SHORT_TAPE, &[|call| call.tape.clear(), |call| call.tape.truncate(call.tape.len() - 1)]),
                 (
@@ -417,9 +481,9 @@ fn deciding_bytes(report: &Report) -> Vec<usize> {
     (masks..masks + 32).chain(key_mask..key_mask + 16).collect()
 }
 
-/// One lane tells nothing of link and message: another link and message of the same length show
-/// the same 48 bytes under one tape, which differs from the first in 48 bytes at most, and under
-/// no other such tape.
+/// One lane tells nothing of link and message: another link, of either width, and message of the same
+/// length show the same 48 bytes under one tape, which differs from the first in 48 bytes at most, and
+/// under no other such tape.
 pub fn one_tape(tally: &mut Tally) {
     for length in [0, 1, 16, 20, 32] {
         let calls = shares::call_count(length) as u32;
@@ -427,8 +491,10 @@ pub fn one_tape(tally: &mut Tally) {
             for round in [1, 2, 3, 17, 34, 35, 36] {
                 for lane in 0..3 {
                     let number = (100 * call + 3 * round + lane) as usize;
-                    let first = Report { call, round, lane, ..good(tally, length, number) };
-                    let Report { link, message, .. } = good(tally, length, number + 10_000);
+                    let mut random = tally.random_for(number);
+                    let (own, other) = (random.pick(&WIDTHS), random.pick(&WIDTHS));
+                    let first = Report { call, round, lane, ..good(tally, own, length, number) };
+                    let Report { link, message, .. } = good(tally, other, length, number + 10_000);
                     hold_one_tape(tally, &first, &Report { link, message, ..first.clone() });
                 }
             }

@@ -4,7 +4,7 @@ use crate::body::{Mark, VALUES};
 use crate::keying::{Key, RECEIVING, SENDING};
 use crate::lanes::Report;
 use crate::lent::{hold, Call};
-use crate::links::{self, Window, ADDED, LONGEST, RECEIVER, SENDER, SENDER_KEYS, SHARES};
+use crate::links::{self, Width, Window, LONGEST, RECEIVER, SENDER, SENDER_KEYS, SHARES, TOLD};
 use crate::opening::Open;
 use crate::plain::SealPlain;
 use crate::random::Random;
@@ -15,13 +15,13 @@ use crate::tally::Tally;
 use crate::writing::WriteBody;
 
 /// Calls made in all.
-const CALLS: usize = 25_000;
+const CALLS: usize = 30_000;
 /// Racks that run side by side.
 const RACKS: usize = 4;
 /// Records kept on the way from sender to receiver.
 const KEPT: usize = 12;
 
-/// Two links under one number and key, and what is on the way between them.
+/// Two links under one number and key, mostly of one width, and what is on the way between them.
 struct Rack {
     number: u32,
     /// Three shares of KE, then of KM; the last that the sender was keyed with.
@@ -112,18 +112,33 @@ fn read(tally: &mut Tally, random: &mut Random, message: &[u8]) {
     accepted(tally, random, &call);
 }
 
-/// Keys both links anew, each now and then with material of a wrong length.
+/// What tells a width: each as often as the other.
+fn told(random: &mut Random) -> u32 {
+    match random.below(2) {
+        0 => 0,
+        _ => random.pick(&TOLD[1..]),
+    }
+}
+
+/// The width of a link, for the lengths of what is lent with it; any one where it has none.
+fn width_of(link: &[u8]) -> Width {
+    Width::of(link).unwrap_or(Width::Wide)
+}
+
+/// Keys both links anew, each now and then with material of a wrong length, and now and then the
+/// receiver with the other width.
 fn key(tally: &mut Tally, random: &mut Random, rack: &mut Rack) {
     let fresh_keys = random.bytes(SENDER_KEYS);
-    let (link, number) = (rack.sender.clone(), rack.number);
-    let mut call = Key { side: &SENDING, link, number, keys: fresh_keys.clone() };
+    let (link, number, wide) = (rack.sender.clone(), rack.number, told(random));
+    let mut call = Key { side: &SENDING, link, number, wide, keys: fresh_keys.clone() };
     disturb(random, &mut call.keys);
     let Some(left) = accepted(tally, random, &call) else { return };
     rack.sender = left.link;
     rack.keys = fresh_keys;
     rack.records.clear();
-    let joined = links::joined_keys(&rack.keys);
-    let mut call = Key { side: &RECEIVING, link: rack.receiver.clone(), number, keys: joined };
+    let (link, keys) = (rack.receiver.clone(), links::joined_keys(&rack.keys));
+    let wide = if random.below(16) == 0 { told(random) } else { wide };
+    let mut call = Key { side: &RECEIVING, link, number, wide, keys };
     disturb(random, &mut call.keys);
     if let Some(left) = accepted(tally, random, &call) {
         rack.receiver = left.link;
@@ -134,8 +149,9 @@ fn key(tally: &mut Tally, random: &mut Random, rack: &mut Rack) {
 fn seal(tally: &mut Tally, random: &mut Random, rack: &mut Rack) {
     let message = message(tally, random);
     let length = message.len();
+    let width = width_of(&rack.sender);
     let tape = room(random, shares::tape_need(length));
-    let record = room(random, length + ADDED);
+    let record = room(random, length + width.added());
     let shares = room(random, SHARES);
     let call = Seal {
         link: rack.sender.clone(),
@@ -146,14 +162,15 @@ fn seal(tally: &mut Tally, random: &mut Random, rack: &mut Rack) {
     };
     let Some(left) = accepted(tally, random, &call) else { return };
     rack.sender = left.link;
-    let record = left.record[..length + ADDED].to_vec();
-    let sequence = u32::from_be_bytes(record[4..8].try_into().unwrap());
+    let record = left.record[..length + width.added()].to_vec();
+    let sequence = width.sequence(&record);
     let plain = SealPlain {
         keys: links::joined_keys(&rack.keys),
         number: rack.number,
+        wide: width as u32,
         sequence,
         message: call.message,
-        record: vec![0; length + ADDED],
+        record: vec![0; length + width.added()],
     };
     if let Some(left) = accepted(tally, random, &plain) {
         tally.same(format_args!("plain and shared record, sequence {sequence}"), &left.record, &record);
@@ -165,19 +182,22 @@ fn seal(tally: &mut Tally, random: &mut Random, rack: &mut Rack) {
 fn seal_plain(tally: &mut Tally, random: &mut Random, rack: &mut Rack) {
     let message = message(tally, random);
     let length = message.len();
-    let last = u32::from_be_bytes(rack.sender[5..9].try_into().unwrap());
-    let record = room(random, length + ADDED);
+    let last = links::last_of(&rack.sender);
+    let wide = if random.below(8) == 0 { told(random) } else { width_of(&rack.sender) as u32 };
+    let added = Width::told(wide).added();
+    let record = room(random, length + added);
     let most = random.pick(&[2, 70]);
     let mut call = SealPlain {
         keys: links::joined_keys(&rack.keys),
         number: rack.number,
-        sequence: last.wrapping_add(random.below(2 * most + 1) as u32).wrapping_sub(most as u32),
+        wide,
+        sequence: last.wrapping_add(random.below(2 * most + 1) as u64).wrapping_sub(most as u64),
         message,
         record: random.bytes(record),
     };
     disturb(random, &mut call.keys);
     if let Some(left) = accepted(tally, random, &call) {
-        rack.keep(left.record[..length + ADDED].to_vec());
+        rack.keep(left.record[..length + added].to_vec());
     }
 }
 
@@ -194,7 +214,7 @@ fn open(tally: &mut Tally, random: &mut Random, rack: &mut Rack) {
         let i = random.below(record.len());
         record[i] ^= 1 << random.below(8);
     }
-    let length = record.len().saturating_sub(ADDED);
+    let length = record.len().saturating_sub(width_of(&rack.receiver).added());
     let message = room(random, length);
     let call = Open { link: rack.receiver.clone(), record, message: random.bytes(message) };
     if let Some(left) = accepted(tally, random, &call) {
@@ -220,14 +240,29 @@ fn report(tally: &mut Tally, random: &mut Random, rack: &Rack) {
     accepted(tally, random, &call);
 }
 
-/// Brings a rack near the end of its numbers, or makes its links unkeyed again.
+/// A number near the end of those of a link: around 4294967295 and, on a wide link, also at its last.
+fn near_end(random: &mut Random, link: &[u8]) -> u64 {
+    match width_of(link) {
+        Width::Wide if random.below(2) == 0 => Width::Wide.last() - random.below(4) as u64,
+        _ => Width::Narrow.last() - 3 + random.below(5) as u64,
+    }
+}
+
+/// Brings a rack near the end of its numbers, makes its links unkeyed again, or changes their widths.
 fn upset(random: &mut Random, rack: &mut Rack) {
-    let last = u32::MAX - random.below(4) as u32;
-    match random.below(5) {
-        0 | 1 => links::set_last(&mut rack.sender, last),
-        2 => links::set_window(&mut rack.receiver, Window { highest: last, word: random.number() }),
+    match random.below(7) {
+        0 | 1 => {
+            let last = near_end(random, &rack.sender);
+            links::set_last(&mut rack.sender, last);
+        }
+        2 => {
+            let highest = near_end(random, &rack.receiver);
+            links::set_window(&mut rack.receiver, Window { highest, word: random.number() });
+        }
         3 => rack.sender[0] = random.number() as u8,
-        _ => rack.receiver[0] = random.number() as u8,
+        4 => rack.receiver[0] = random.number() as u8,
+        5 => links::set_width_byte(&mut rack.sender, random.below(3) as u8),
+        _ => links::set_width_byte(&mut rack.receiver, random.below(3) as u8),
     }
 }
 

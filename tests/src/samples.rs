@@ -4,7 +4,7 @@
 use crate::body::{self, Mark};
 use crate::cipher;
 use crate::hex::Hex;
-use crate::links;
+use crate::links::{self, Width};
 use crate::shares;
 use crate::vectors::PUBLISHED;
 
@@ -44,16 +44,32 @@ pub fn vectors() {
 
 // ---- plain sealing and opening
 
-fn seal_plain(keys: &[u8], sequence: u32, message: &[u8], room: usize) -> (u32, Vec<u8>) {
+fn seal_plain(keys: &[u8], width: Width, sequence: u64, message: &[u8], room: usize) -> (u32, Vec<u8>) {
     let mut record = vec![0; room];
-    let number = links::seal_plain(keys, NUMBER, sequence, message, &mut record);
+    let number = links::seal_plain(keys, NUMBER, width as u32, sequence, message, &mut record);
     (number, record)
 }
 
+fn keyed_receiver(width: Width, keys: &[u8]) -> Vec<u8> {
+    let mut link = vec![0; links::RECEIVER];
+    assert_eq!(links::key_receiver(&mut link, NUMBER, width as u32, keys), 0);
+    link
+}
+
 fn print_opened(link: &mut [u8], record: &[u8]) {
-    let mut message = vec![0; record.len() - links::ADDED];
+    let width = Width::of(link).expect("a width");
+    let mut message = vec![0; record.len() - width.added()];
     assert_eq!(links::open(link, record, &mut message), 0);
     println!("open {} {}", message.len(), digits(&message));
+}
+
+/// Prints the record of a message, and opens it.
+fn print_sealed_and_opened(keys: &[u8], link: &mut [u8], sequence: u64, message: &[u8]) {
+    let width = Width::of(link).expect("a width");
+    let (number, record) = seal_plain(keys, width, sequence, message, message.len() + width.added());
+    assert_eq!(number, 0);
+    println!("seal {} {}", message.len(), digits(&record));
+    print_opened(link, &record);
 }
 
 fn print_answer(what: &str, link: &mut [u8], record: &[u8], room: usize) {
@@ -62,20 +78,19 @@ fn print_answer(what: &str, link: &mut [u8], record: &[u8], room: usize) {
 
 pub fn records() {
     let keys = rising(links::RECEIVER_KEYS, 0, 1);
-    let mut link = vec![0; links::RECEIVER];
-    assert_eq!(links::key_receiver(&mut link, NUMBER, &keys), 0);
+    let mut link = keyed_receiver(Width::Narrow, &keys);
     for (i, length) in [0, 1, 15, 16, 17, 31, 32, 255, 256].into_iter().enumerate() {
-        let (number, record) = seal_plain(&keys, i as u32 + 1, &message(length), length + links::ADDED);
-        assert_eq!(number, 0);
-        println!("seal {length} {}", digits(&record));
-        print_opened(&mut link, &record);
+        print_sealed_and_opened(&keys, &mut link, i as u64 + 1, &message(length));
     }
 
-    println!("seal 257 bytes {}", seal_plain(&keys, 1, &message(257), 281).0);
-    println!("seal sequence 0 {}", seal_plain(&keys, 0, &message(17), 281).0);
-    println!("seal keys of 31 bytes {}", seal_plain(&keys[..31], 1, &message(17), 281).0);
-    println!("seal output one short {}", seal_plain(&keys, 1, &message(17), 40).0);
-    let (number, record) = seal_plain(&keys, 10, &message(17), 41);
+    let seal = |keys: &[u8], sequence: u64, length: usize, room: usize| {
+        seal_plain(keys, Width::Narrow, sequence, &message(length), room)
+    };
+    println!("seal 257 bytes {}", seal(&keys, 1, 257, 281).0);
+    println!("seal sequence 0 {}", seal(&keys, 0, 17, 281).0);
+    println!("seal keys of 31 bytes {}", seal(&keys[..31], 1, 17, 281).0);
+    println!("seal output one short {}", seal(&keys, 1, 17, 40).0);
+    let (number, record) = seal(&keys, 10, 17, 41);
     println!("seal 17 bytes {number}");
 
     let damaged = |at: usize| {
@@ -96,9 +111,33 @@ pub fn records() {
 
     // 64 numbers and more out of turn, and fewer.
     for sequence in [74, 11, 11, 10, 73, 138, 74, 75] {
-        let (number, record) = seal_plain(&keys, sequence, &message(17), 41);
+        let (number, record) = seal(&keys, sequence, 17, 41);
         assert_eq!(number, 0);
         print_answer(&sequence.to_string(), &mut link, &record, 17);
+    }
+    wide_records();
+}
+
+/// A wide link, and what a narrow one with the same keys makes of its records and it of theirs.
+fn wide_records() {
+    let keys = rising(links::RECEIVER_KEYS, 2, 5);
+    let seal =
+        |width: Width, sequence: u64| seal_plain(&keys, width, sequence, &message(17), 17 + width.added());
+    println!("seal narrow 4294967296 {}", seal(Width::Narrow, 1 << 32).0);
+    println!("seal wide 0 {}", seal(Width::Wide, 0).0);
+
+    let mut wide = keyed_receiver(Width::Wide, &keys);
+    let mut narrow = keyed_receiver(Width::Narrow, &keys);
+    let (_, narrow_record) = seal(Width::Narrow, (1 << 32) - 1);
+    let (_, wide_record) = seal(Width::Wide, 1 << 32);
+    print_answer("27 bytes", &mut wide, &[0; 27], 256);
+    print_answer("285 bytes", &mut wide, &[0; 285], 256);
+    print_answer("narrow record", &mut wide, &narrow_record, 256);
+    print_answer("wide record", &mut narrow, &wide_record, 256);
+    links::set_last(&mut narrow, 1 << 32);
+    print_answer("narrow link 4294967296", &mut narrow, &narrow_record, 256);
+    for sequence in [1, (1 << 32) - 1, 1 << 32, u64::MAX - 1, u64::MAX] {
+        print_sealed_and_opened(&keys, &mut wide, sequence, &message(17));
     }
 }
 
@@ -109,7 +148,8 @@ fn tape(length: usize) -> Vec<u8> {
 }
 
 fn print_sealed(link: &mut [u8], message: &[u8], tape: &[u8]) {
-    let mut record = vec![0; message.len() + links::ADDED];
+    let width = Width::of(link).expect("a width");
+    let mut record = vec![0; message.len() + width.added()];
     let mut shares = [0; links::SHARES];
     assert_eq!(links::seal(link, message, tape, &mut record, &mut shares), 0);
     println!("seal {} {}", message.len(), digits(&record));
@@ -129,7 +169,7 @@ fn print_lanes(link: &[u8], message: &[u8], call: u32) {
 }
 
 pub fn lanes() {
-    let mut link = links::sending(NUMBER, 0, &rising(links::SENDER_KEYS, 1, 11));
+    let mut link = links::sending(NUMBER, Width::Narrow, 0, &rising(links::SENDER_KEYS, 1, 11));
     for length in [0, 1, 15, 16, 17, 48, 256] {
         print_sealed(&mut link, &message(length), &tape(shares::tape_need(length)));
     }
@@ -160,6 +200,21 @@ pub fn lanes() {
             }
         }
     }
+
+    // A wide link at the end of 32 bits, and links of both widths at the ends of their numbers.
+    let keys = rising(links::SENDER_KEYS, 2, 5);
+    let wide = links::sending(NUMBER, Width::Wide, (1 << 32) - 1, &keys);
+    print_sealed(&mut wide.clone(), &message(17), &tape(shares::tape_need(17)));
+    print_lanes(&wide, &message(17), 1);
+    for (name, width, last) in [
+        ("narrow", Width::Narrow, (1 << 32) - 1),
+        ("narrow", Width::Narrow, 1 << 32),
+        ("wide", Width::Wide, u64::MAX - 1),
+        ("wide", Width::Wide, u64::MAX),
+    ] {
+        let link = links::sending(NUMBER, width, last, &keys);
+        report(&format!("{name} last {last}"), &link, &[], &vec![0; need], 48);
+    }
 }
 
 // ---- the rack's loop
@@ -169,7 +224,7 @@ fn turn(link: &mut [u8], length: usize, tape_length: usize, room: usize) {
     let mut record = vec![0; room];
     let mut shares = [0; links::SHARES];
     match links::seal(link, &message(length), &tape(tape_length), &mut record, &mut shares) {
-        0 => println!("{}", Hex(&record[..length + links::ADDED])),
+        0 => println!("{}", Hex(&record[..length + Width::Narrow.added()])),
         refusal => println!("{refusal}"),
     }
 }
@@ -178,7 +233,7 @@ pub fn rack() {
     let mut link = vec![0; links::SENDER];
     turn(&mut link, 257, 39_232, 280);
     let keys = rising(links::SENDER_KEYS, 11, 37);
-    assert_eq!(links::key_sender(&mut link, NUMBER, &keys), 0);
+    assert_eq!(links::key_sender(&mut link, NUMBER, Width::Narrow as u32, &keys), 0);
     for (message, tape, room) in [
         (0, 2368, 24),
         (0, 2367, 24),

@@ -147,9 +147,9 @@ pub fn key_masks_at(call: usize, length: usize) -> usize {
     }
 }
 
-/// Counter block i: link number, four zero bytes, sequence number, i.
-pub fn counter_block(number: u32, sequence: u32, i: u32) -> Block {
-    [number, 0, sequence, i].map(u32::to_be_bytes).concat().try_into().unwrap()
+/// Counter block i: link number, sequence number in eight bytes whatever the width is, i.
+pub fn counter_block(number: u32, sequence: u64, i: u32) -> Block {
+    [&number.to_be_bytes()[..], &sequence.to_be_bytes(), &i.to_be_bytes()].concat().try_into().unwrap()
 }
 
 pub struct Sealing {
@@ -162,7 +162,7 @@ pub struct Sealing {
 }
 
 /// Seals by shares, call after call.
-pub fn seal(number: u32, sequence: u32, ke: &Shares, km: &Shares, message: &[u8], tape: &[u8]) -> Sealing {
+pub fn seal(number: u32, sequence: u64, ke: &Shares, km: &Shares, message: &[u8], tape: &[u8]) -> Sealing {
     const ZERO: Shares = [[0; 16]; 3];
     let block_at = |at: usize| -> Block { tape[at..at + 16].try_into().unwrap() };
     let ke = masked(ke, &block_at(0), &block_at(16));
