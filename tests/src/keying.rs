@@ -1,7 +1,7 @@
 //! Keying: `rasppuce_key_sender` and `rasppuce_key_receiver`.
 
 use crate::lent::{hold_answer, Call, Lent};
-use crate::links::{self, Width, BAD_KEYS, RECEIVER, RECEIVER_KEYS, SENDER, SENDER_KEYS, TOLD};
+use crate::links::{self, Width, BAD_KEYS, NOT_KEYED, RECEIVER, RECEIVER_KEYS, SENDER, SENDER_KEYS, TOLD};
 use crate::tally::Tally;
 
 extern "C" {
@@ -84,6 +84,26 @@ impl Call for Key {
 pub fn keyed(tally: &mut Tally, side: &'static Side, number: u32, width: Width, keys: &[u8]) -> Vec<u8> {
     let call = Key { side, link: vec![0; side.link], number, wide: width as u32, keys: keys.to_vec() };
     hold_answer(tally, &call, 0, 0).left.link
+}
+
+/// Holds a call on a good link of this side to what counts as keyed: links of every length to 130, with
+/// every first byte, and with every last byte that is no width; and a fresh link.
+pub fn hold_links<C: Call>(tally: &mut Tally, side: &Side, good: &C, link: fn(&mut C) -> &mut Vec<u8>) {
+    let mut hold = |change: &dyn Fn(&mut Vec<u8>), is_keyed: bool, shift: usize| {
+        let mut call = good.clone();
+        change(link(&mut call));
+        hold_answer(tally, &call, if is_keyed { 0 } else { NOT_KEYED }, shift);
+    };
+    for size in (0..=130).chain([256 + side.link, 65_536 + side.link]) {
+        hold(&|link| link.resize(size, 1), size == side.link, size);
+    }
+    for byte in 0..=255 {
+        hold(&|link| link[0] = byte, byte == 1, byte.into());
+    }
+    for byte in 2..=255 {
+        hold(&|link| links::set_width_byte(link, byte), false, byte.into());
+    }
+    hold(&|link| link.fill(0), false, 0);
 }
 
 /// Holds both calls on links and keys of these lengths, whatever stood in the link before.

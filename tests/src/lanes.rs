@@ -1,9 +1,10 @@
 //! The lane report: `rasppuce_report`.
 
 use crate::cipher::{self, Block, ROUNDS};
+use crate::keying::{hold_links, SENDING};
 use crate::lent::{hold_answer, hold_as, hold_order, Call, Lent};
 use crate::links::{
-    self, Sender, Width, BAD_CALL, BAD_LANE, BAD_ROUND, LANE, LONG_MESSAGE, NOT_KEYED, NUMBERS_USED, SENDER,
+    self, Sender, Width, BAD_CALL, BAD_LANE, BAD_ROUND, LANE, LONG_MESSAGE, NOT_KEYED, NUMBERS_USED,
     SENDER_KEYS, SEQUENCES, SHARES, SHORT_OUTPUT, SHORT_TAPE, WIDTHS, WIDTH_BYTES,
 };
 use crate::modes::{self, xor_blocks};
@@ -313,8 +314,8 @@ fn hold_ranges(tally: &mut Tally, good: &Report) {
     }
 }
 
-/// Outputs, tapes, links and messages of other lengths, and links of other first and last bytes. The
-/// tape that would do for 35 pairs a call is too short.
+/// Outputs, tapes and messages of other lengths, and links that count as keyed and others. The tape that
+/// would do for 35 pairs a call is too short.
 pub fn lengths(tally: &mut Tally) {
     for width in WIDTHS {
         for (length, need) in links::NEEDS {
@@ -324,21 +325,7 @@ pub fn lengths(tally: &mut Tally) {
             hold_answer(tally, &good(tally, width, length, 3), LONG_MESSAGE, length);
         }
         let good = good(tally, width, 9, 3);
-        for size in (0..=130).chain([256 + 110, 65_536 + 110]) {
-            let mut call = good.clone();
-            call.link.resize(size, 1);
-            hold_answer(tally, &call, if size == SENDER { 0 } else { NOT_KEYED }, size);
-        }
-        for byte in 0..=255 {
-            let mut call = good.clone();
-            call.link[0] = byte;
-            hold_answer(tally, &call, if byte == 1 { 0 } else { NOT_KEYED }, byte as usize);
-        }
-        for byte in 2..=255 {
-            let mut call = good.clone();
-            links::set_width_byte(&mut call.link, byte);
-            hold_answer(tally, &call, NOT_KEYED, byte as usize);
-        }
+        hold_links(tally, &SENDING, &good, |call| &mut call.link);
     }
 }
 

@@ -1,8 +1,9 @@
 //! Opening: `rasppuce_open`.
 
+use crate::keying::{hold_links, RECEIVING};
 use crate::lent::{hold_answer, hold_order, Call, Lent};
 use crate::links::{
-    self, Width, Window, BAD_RECORD, BELOW_WINDOW, EDGES, KEYS_AT, LONGEST, NOT_KEYED, OTHER_LINK, RECEIVER,
+    self, Width, Window, BAD_RECORD, BELOW_WINDOW, EDGES, KEYS_AT, LONGEST, NOT_KEYED, OTHER_LINK,
     RECEIVER_KEYS, REPEATED, SEQUENCES, SHORT_OUTPUT, WIDTHS, WIDTH_BYTES, WRONG_TAG,
 };
 use crate::tally::Tally;
@@ -331,27 +332,11 @@ pub fn other_width(tally: &mut Tally) {
     }
 }
 
-/// Links of every length to 130 and of every first byte and last byte.
+/// Links that count as keyed, and others.
 pub fn not_keyed(tally: &mut Tally) {
     for width in WIDTHS {
         let good = good(tally, width, 20, 0);
-        for size in (0..=130).chain([256 + 54, 65_536 + 54]) {
-            let mut call = good.clone();
-            call.link.resize(size, 1);
-            hold_answer(tally, &call, if size == RECEIVER { 0 } else { NOT_KEYED }, size);
-        }
-        for byte in 0..=255 {
-            let mut call = good.clone();
-            call.link[0] = byte;
-            hold_answer(tally, &call, if byte == 1 { 0 } else { NOT_KEYED }, byte as usize);
-        }
-        for byte in 2..=255 {
-            let mut call = good.clone();
-            links::set_width_byte(&mut call.link, byte);
-            hold_answer(tally, &call, NOT_KEYED, byte as usize);
-        }
-        let fresh = Open { link: vec![0; RECEIVER], ..good };
-        hold_answer(tally, &fresh, NOT_KEYED, 0);
+        hold_links(tally, &RECEIVING, &good, |call| &mut call.link);
     }
 }
 

@@ -1,9 +1,10 @@
 //! Shared sealing: `rasppuce_seal`.
 
+use crate::keying::{hold_links, SENDING};
 use crate::lent::{hold_answer, hold_order, Call, Lent};
 use crate::links::{
-    self, Width, EDGES, LONGEST, LONG_MESSAGE, NOT_KEYED, NUMBERS_USED, RECEIVER, SENDER, SENDER_KEYS,
-    SEQUENCES, SHARES, SHORT_OUTPUT, SHORT_TAPE, WIDTHS, WIDTH_BYTES,
+    self, Width, EDGES, LONGEST, LONG_MESSAGE, NOT_KEYED, NUMBERS_USED, RECEIVER, SENDER_KEYS, SEQUENCES,
+    SHARES, SHORT_OUTPUT, SHORT_TAPE, WIDTHS, WIDTH_BYTES,
 };
 use crate::modes;
 use crate::plain::SealPlain;
@@ -292,27 +293,11 @@ fn hold_numbers(tally: &mut Tally, sealed: &Seal, number: u32, sequence: u64) {
     tally.same(format_args!("last number of link, {sequence}"), &sealed.link[5..13], &in_link);
 }
 
-/// Links of every length to 130 and of every first byte and last byte.
+/// Links that count as keyed, and others.
 pub fn not_keyed(tally: &mut Tally) {
     for width in WIDTHS {
         let good = good(tally, width, 20);
-        for size in (0..=130).chain([256 + 110, 65_536 + 110]) {
-            let mut call = good.clone();
-            call.link.resize(size, 1);
-            hold_answer(tally, &call, if size == SENDER { 0 } else { NOT_KEYED }, size);
-        }
-        for byte in 0..=255 {
-            let mut call = good.clone();
-            call.link[0] = byte;
-            hold_answer(tally, &call, if byte == 1 { 0 } else { NOT_KEYED }, byte as usize);
-        }
-        for byte in 2..=255 {
-            let mut call = good.clone();
-            links::set_width_byte(&mut call.link, byte);
-            hold_answer(tally, &call, NOT_KEYED, byte as usize);
-        }
-        let fresh = Seal { link: vec![0; SENDER], ..good };
-        hold_answer(tally, &fresh, NOT_KEYED, 0);
+        hold_links(tally, &SENDING, &good, |call| &mut call.link);
     }
 }
 
