@@ -151,6 +151,11 @@ either P false f g = g refl
 
 -- ---- a test's value, from the fact that it tests
 
+-- a test fails exactly where what it tests is not so
+pub fails-exactly : (t : Bool) {A : Type 0} → t ≡ true ↔ A → not t ≡ true ↔ (A → ⊥)
+fails-exactly true e = (λ h. absurd (false≢true h), λ f. absurd (f (e .0 refl)))
+fails-exactly false e = (λ h a. false≢true (e .1 a), λ f. refl)
+
 pub eq-not : (a b : ℕ) → a ≡ b → not (eqb a b) ≡ false
 eq-not a b h = ap not (eq-eqb a b h)
 

@@ -4,6 +4,7 @@ use mathlib.Core.Bool.{Bool, false, not, cond}
 use mathlib.Core.List.{List, [], _∷_}
 use Prim.Native.Nat.{ℕ}
 use lib.Dec.{T}
+use lib.ListN.{length, drop}
 use Rattle.blocks.specs.Bytes.{put}
 
 pub data Answer : Type 0 where
@@ -42,6 +43,11 @@ ifDone (refused n) x y = y
 -- an entry's output o at its end: done, xs written from its start and what lies past it untouched; refused, as it came
 abbrev pub output : Answer → List ℕ → List ℕ → List ℕ
 output a xs o = ifDone a (put 0 xs o) o
+
+-- p is what an output o may have become at its end: as long as it was, and past its first n bytes as it was
+pub record Kept (n : ℕ) (o p : List ℕ) : Type 0 where
+  pub size : length p ≡ length o
+  pub rest : drop n p ≡ drop n o
 
 -- n is the number of the first cause that applies
 pub data FirstOf (n : ℕ) : List Cause → Type 0 where

@@ -1,5 +1,6 @@
 // Parts of a slice: read and written as numbers, blocks and bytes.
 ghost use mathlib.Core.Path.{_≡_};
+ghost use mathlib.Core.List.{_++_};
 ghost use Prim.Native.Nat.{_+_, _≤_};
 ghost use lib.ListN.{length, take};
 ghost use Rattle.blocks.specs.Bytes.{sameBytes, bigEndian, value, part, put};
@@ -68,6 +69,17 @@ pub fn blocks_at(s: &[u8], at: usize) -> [u8; 48]
 {
     let mut blocks = [0u8; 48];
     put_bytes(&s[at..at + 48], &mut blocks, 0);
+    blocks
+}
+
+// Three blocks, one behind the other.
+pub fn three_blocks(a: [u8; 16], b: [u8; 16], c: [u8; 16]) -> [u8; 48]
+    ensures { λ r. ⌜ r ≡ a ++ (b ++ c) ⌝ }
+{
+    let mut blocks = [0u8; 48];
+    put_bytes(&a, &mut blocks, 0);
+    put_bytes(&b, &mut blocks, 16);
+    put_bytes(&c, &mut blocks, 32);
     blocks
 }
 

@@ -1,11 +1,13 @@
 -- A body and the values of a mark, written part by part. Assumes nothing.
-use Rattle.prelude.proofs.{_≡_, refl, sym, ap, _∙_, List, [], _∷_, _++_, append-assoc, ℕ, _+_, _^_, _≤_, length, length-append, arith, ℤ}
+use Rattle.prelude.proofs.{_≡_, refl, sym, ap, _∙_, List, [], _∷_, _++_, append-assoc, ℕ, suc, _+_, _^_, _≤_, length, length-append}
+use Rattle.prelude.proofs.{arith, ℤ}
 use Rattle.blocks.specs.Bytes.{put, bigEndian}
 use Rattle.blocks.proofs.Parts.{put-put}
 use Rattle.blocks.proofs.Numbers.{bigEndian-length}
 use Rattle.body.specs.Signed.{residue}
-use Rattle.body.specs.Mark.{offsetWord, written, offsetValues}
+use Rattle.body.specs.Mark.{offsetWord, written, offsetValues, values}
 use Rattle.body.specs.declared.Mark.{Mark}
+use Rattle.body.specs.declared.Offset.{Offset}
 use Rattle.body.specs.declared.Offset.the-variants.{Missing, Minutes}
 
 -- ys behind xs
@@ -35,7 +37,14 @@ three-and u v w x y z ds o h ea eb ec ed =
 pub written-length : (m : Mark) → length (written m) ≡ 12 + length (offsetWord (m .offset))
 written-length m = simp (length-append, bigEndian-length) (omega arith)
 
--- the values say an offset in five bytes
+-- the values say an offset in five bytes, and are 17
+offset-length : (s : Offset) → length (offsetValues s) ≡ 5
+offset-length Missing = ap suc (bigEndian-length 4 0)
+offset-length (Minutes z) = ap suc (bigEndian-length 4 _)
+
+pub values-length : (m : Mark) → length (values m) ≡ 17
+values-length m = simp (length-append, bigEndian-length, offset-length)
+
 pub no-offset : bigEndian 5 0 ≡ offsetValues Missing
 unfolding bigEndian
 no-offset = refl

@@ -1,7 +1,7 @@
 -- What the reports of an accepted sealing show: its lanes, what they join to, and the tag's shares made of them.
 -- Assumes nothing.
 use Rattle.prelude.proofs.{_≡_, refl, sym, ap, ap₂, _∙_, List, [], _∷_, ℕ, zero, suc, _+_, _-_, _*_, _%_, _≤_, _<_, arith, length}
-use Rattle.prelude.proofs.{replicate}
+use Rattle.prelude.proofs.{min, replicate}
 use Rattle.blocks.specs.Bytes.{Bytes, _⊕_, part, put, blockCount}
 use Rattle.blocks.proofs.Parts.{put-whole}
 use Rattle.baksheesh.specs.Baksheesh.{rounds, after, rotated}
@@ -9,8 +9,8 @@ use Rattle.answers.specs.Answer.{done}
 use Rattle.answers.proofs.First.{if-done}
 use Rattle.links.specs.{Record.recordSize, Links.senderForm, declared.Sender.Sender}
 use Rattle.masking.specs.Shares.{flat, next, isFirst, Shares, Blocks, join, at, pairSize, masksAt}
-use Rattle.masking.specs.{Stages.lane, Call.encryption, Call.pairCount, OneTape.roundOnLane, OneTape.ExactlyOne}
-use Rattle.masking.proofs.Lane.{first-part, second-part, third-part, parts-length, lane-next, lane-after}
+use Rattle.masking.specs.{Stages.lane, Stages.shownShares, Call.encryption, Call.pairCount, OneTape.roundOnLane, OneTape.ExactlyOne}
+use Rattle.masking.proofs.Lane.{first-part, second-part, third-part, parts-length, lane-next, lane-after, lane-key}
 use Rattle.masking.proofs.Encryption.{encryption-blocks, encryption-joins, encryption-turns, plain-after, masked-lane, lane-follows}
 use Rattle.masking.proofs.{Shape.Reads, Tape.at-reads, MaskedCall.one-accepted}
 use Rattle.runs.specs.Run.{Run, keyShares, inputOf, outputOf, laneOf}
@@ -19,23 +19,23 @@ use Rattle.runs.proofs.Run.{Placed, RunBlocks, key-blocks, input-blocks, output
 use Rattle.runs.proofs.OneTape.{one-tape-run}
 use Rattle.calls.specs.Numbered.{callOf, callCount, callAt, tapeNeed, keyAt, ofKey}
 use Rattle.calls.specs.Entry.{sealAnswer, sealShares, indexOf}
-use Rattle.calls.specs.Demand.{Accepted, AcceptedSealing, joinedKE, joinedKM, shown, masksOf, SameLane, Joined}
+use Rattle.calls.specs.Demand.{Accepted, AcceptedSealing, joinedKE, joinedKM, shown, masksOf, SameLane, Joined, OwnKeys}
 use Rattle.calls.specs.{Sealed.sealingCalls, Sealed.tagShares, Plain.plainInput, Plain.plainState, Plain.plainKey}
 use Rattle.calls.proofs.Accepted.{Sealable, accepted, values, sealable, room, reported}
 use Rattle.calls.proofs.{Shape.sealing-placed, Shape.sealing-blocks, Joins.given-join, Joins.sealing-joins}
 
-index-next : (i : ℕ) → i < 3 → indexOf ((i + 1) % 3) ≡ next (indexOf i)
+pub index-next : (i : ℕ) → i < 3 → indexOf ((i + 1) % 3) ≡ next (indexOf i)
 index-next zero l = refl
 index-next (suc zero) l = refl
 index-next (suc (suc zero)) l = refl
 index-next (suc (suc (suc i))) l = absurd (omega arith)
 
-index-after : (i : ℕ) → i < 3 → indexOf ((i + 2) % 3) ≡ next (next (indexOf i))
+pub index-after : (i : ℕ) → i < 3 → indexOf ((i + 2) % 3) ≡ next (next (indexOf i))
 index-after i l =
     let e : (i + 2) % 3 ≡ ((i + 1) % 3 + 1) % 3 = omega arith in
     ap indexOf e ∙ index-next ((i + 1) % 3) (omega arith) ∙ ap next (index-next i l)
 
-part-flat : (s : Shares) → Blocks s → (i : ℕ) → i < 3 → part (16 * i) 16 (flat s) ≡ s (indexOf i)
+pub part-flat : (s : Shares) → Blocks s → (i : ℕ) → i < 3 → part (16 * i) 16 (flat s) ≡ s (indexOf i)
 part-flat s p zero l = first-part (p _) (p _) (p _)
 part-flat s p (suc zero) l = second-part (p _) (p _) (p _)
 part-flat s p (suc (suc zero)) l = third-part (p _) (p _) (p _)
@@ -151,6 +151,20 @@ module _ (S : AcceptedSealing) where
 
     inputs : Blocks (inputOf encryption R (at t) k)
     inputs = input-blocks placed encryption-blocks blocks (at t) k _ k₁ (omega arith) all
+
+  -- ---- the key shares that the lanes of round r of call k show
+
+  module _ (k r : ℕ) (k₁ : 1 ≤ k) (kₙ : k ≤ callCount n) (r₁ : 1 ≤ r) (rₙ : r ≤ pairCount) where
+    key-shown : (i : ℕ) → i < 3 → part 32 16 (shown x m t k r i) ≡ rotated (min r rounds) (keyShares encryption R (at t) k (indexOf i))
+    unfolding laneOf shownShares
+    key-shown i l =
+        ap (part 32 16) (shown-lane k r k₁ kₙ r₁ rₙ i l)
+        ∙ lane-key encryption-blocks (at t) (callAt k) (r - 1) (keys k k₁ kₙ) (inputs k k₁ kₙ) (masks k r k₁ kₙ r₁ rₙ) (indexOf i)
+        ∙ ap (λ (q : ℕ). rotated q (keyShares encryption R (at t) k (indexOf i))) (omega arith)
+
+    pub owned : OwnKeys x m t k r
+    unfolding keyShares at
+    owned = record { first = key-shown 0 (omega arith); second = key-shown 1 (omega arith); third = key-shown 2 (omega arith) }
 
   -- ---- from round to round
 

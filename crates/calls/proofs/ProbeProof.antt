@@ -7,16 +7,16 @@ use Rattle.links.specs.declared.Sender.{Sender}
 use Rattle.masking.specs.Shares.{next, isFirst, at, masksAt}
 use Rattle.masking.specs.{Stages.state, Stages.lane, Call.encryption, Call.pairCount, OneTape.ExactlyOne, OneTape.roundOnLane}
 use Rattle.masking.proofs.{Causal.Agree, Causal.state-agree, Tape.take-agree}
-use Rattle.answers.specs.Answer.{numberOf, Accepts}
-use Rattle.answers.proofs.First.{if-done}
+use Rattle.answers.specs.Answer.{numberOf, Accepts, Kept}
+use Rattle.answers.proofs.{First.if-done, Output.output-kept}
 use Rattle.calls.specs.Entry.{sealShares, reportAnswer, reportOutput, indexOf}
-use Rattle.calls.specs.Demand.{AcceptedSealing, shown, masksOf, SameLane, Joined, OutputJoined}
+use Rattle.calls.specs.Demand.{AcceptedSealing, shown, masksOf, SameLane, Joined, OwnKeys, OutputJoined}
 use Rattle.calls.specs.{Numbered.callCount, Numbered.callAt, Sealed.sealingCalls}
 use Rattle.calls.specs.Plain.{plainState, plainKey}
 use Rattle.runs.specs.Run.{keyShares, inputOf, outputOf, laneOf}
 use Rattle.runs.specs.Lanes.{laneSize}
 use Rattle.runs.proofs.Run.{key-agree, input-agree}
-use Rattle.calls.proofs.Lanes.{can-seal, shown-lane, joined, followed, output-shown, tag-lane, tag-shown, exactly-one}
+use Rattle.calls.proofs.Lanes.{can-seal, shown-lane, joined, owned, followed, output-shown, tag-lane, tag-shown, exactly-one}
 use Rattle.calls.proofs.{Shape.sealing-placed, Accepted.reported}
 
 -- two accepted sealings of equal message length, whatever their links, keys, texts and tapes; any lane of any round of any call:
@@ -33,6 +33,12 @@ fits-every-key = exactly-one
 pub lanes-join : (S : AcceptedSealing) (k r : ℕ) → 1 ≤ k → k ≤ callCount (blockCount (length (S .message))) → 1 ≤ r → r ≤ pairCount
     → Joined (S .link) (S .message) (S .tape) k r
 lanes-join = joined
+
+-- those key shares are the link's own three of the call's key, KE or KM, in their order, each XORed with its mask on the tape, c, d and
+-- c XOR d, and rotated as often as the round has it
+pub own-keys : (S : AcceptedSealing) (k r : ℕ) → 1 ≤ k → k ≤ callCount (blockCount (length (S .message))) → 1 ≤ r → r ≤ pairCount
+    → OwnKeys (S .link) (S .message) (S .tape) k r
+own-keys = owned
 
 -- of the output, which round 36 shows: the state shares XOR to the block that the plain cipher makes, and the key shares to the key of
 -- round 35
@@ -69,6 +75,14 @@ pub report-lane : (S : AcceptedSealing) (k r i : ℕ) → 1 ≤ k → k ≤ call
 report-lane S k r i k₁ kₙ r₁ rₙ l o h =
     let answer = reported (S .link) (S .message) (S .tape) k r i (length o) (can-seal S) k₁ kₙ r₁ rₙ l h in
     (ap numberOf answer, sym (if-done answer _ o) ∙ ap (λ (s : List ℕ). put 0 s o) (sym (shown-lane S k r k₁ kₙ r₁ rₙ i l)))
+
+-- past those 48 bytes the output is as it was
+pub report-kept : (S : AcceptedSealing) (k r i : ℕ) → 1 ≤ k → k ≤ callCount (blockCount (length (S .message))) → 1 ≤ r → r ≤ pairCount
+    → i < 3
+    → (o : List ℕ) → laneSize ≤ length o → Kept laneSize o (reportOutput (S .link) (S .message) (S .tape) k r i o)
+report-kept S k r i k₁ kₙ r₁ rₙ l o h =
+    output-kept (reported (S .link) (S .message) (S .tape) k r i (length o) (can-seal S) k₁ kₙ r₁ rₙ l h) _ o laneSize
+    (ap length (sym (shown-lane S k r k₁ kₙ r₁ rₙ i l)) ∙ joined S k r k₁ kₙ r₁ rₙ .sized i l) h
 
 -- it is a lane of the numbered call, on the key shares and the input of which the call makes its output
 pub lanes-used : (S : AcceptedSealing) (k r i : ℕ) → 1 ≤ k → k ≤ callCount (blockCount (length (S .message))) → 1 ≤ r → r ≤ pairCount

@@ -1,11 +1,11 @@
--- Shared and plain sealing agree: the record, the answer, the output; numbers rise by one; the rest of a longer tape is unread.
--- Assumes nothing.
+-- Shared and plain sealing agree: the record, the answer, the output, which past the record is as it was; numbers rise by one; the rest of
+-- a longer tape is unread. Assumes nothing.
 use Rattle.prelude.proofs.{_≡_, sym, ap, ap₂, _∙_, List, [], _∷_, _++_, ℕ, _+_, _≤_, arith, length, take, replicate, length-append}
 use Rattle.prelude.proofs.{length-take, take-at, drop-at, take-all}
 use Rattle.blocks.specs.Bytes.{_⊕_, part, put, blockCount}
 use Rattle.blocks.proofs.Parts.{part-part}
-use Rattle.answers.specs.Answer.{done}
-use Rattle.answers.proofs.First.{if-done}
+use Rattle.answers.specs.Answer.{done, Kept}
+use Rattle.answers.proofs.{First.if-done, Output.output-kept}
 use Rattle.baksheesh.specs.Baksheesh.{encrypt}
 use Rattle.baksheesh.proofs.Inverse.{encrypt-block}
 use Rattle.modes.proofs.Ctr.{ctr-same}
@@ -13,7 +13,7 @@ use Rattle.links.specs.Record.{recordSize, recordOf, sequenceIn}
 use Rattle.links.specs.{Links.senderOf, Links.senderForm, declared.Sender.Sender, declared.Width.Width}
 use Rattle.links.proofs.Widths.{proper}
 use Rattle.plain.specs.{Plain.plainRecord, Entry.plainAnswer, Entry.plainOutput}
-use Rattle.plain.proofs.Sealed.{plain-sequence}
+use Rattle.plain.proofs.Sealed.{plain-length, plain-sequence}
 use Rattle.masking.specs.Shares.{Shares, join, sharesIn, flat, at}
 use Rattle.masking.proofs.{Causal.Agree, Tape.take-agree}
 use Rattle.calls.specs.Entry.{advanced, sealAnswer, sealLink, sealOutput, indexOf}
@@ -22,7 +22,7 @@ use Rattle.calls.specs.{Numbered.callCount, Numbered.tapeNeed, Sealed.ci
 use Rattle.runs.specs.Lanes.{laneSize}
 use Rattle.runs.proofs.Run.{output-agree, lane-agrees}
 use Rattle.calls.proofs.Shape.{ke-block, km-block, sealing-placed}
-use Rattle.calls.proofs.Accepted.{values, sealable, reported, plain-done}
+use Rattle.calls.proofs.Accepted.{values, sealable, room, reported, plain-done}
 use Rattle.calls.proofs.Lanes.{can-seal, returned, reads, accepted-with}
 use Rattle.calls.proofs.Joins.{record-join}
 
@@ -60,6 +60,20 @@ same-output S =
     (same-record S
     ∙ ap₂ (λ (e k : List ℕ). plainRecord (senderForm x) (encrypt e) (encrypt k) (x .number) (x .last + 1) m) (sym ke) (sym km))
     ∙ if-done (same-answer S) _ _
+
+-- past the record the output is as it was
+pub sealed-length : (S : AcceptedSealing) → let x = S .link in
+    length (sealedRecord x (S .message) (at (S .tape))) ≡ recordSize (senderForm x) (length (S .message))
+sealed-length S =
+    let x = S .link in
+    ap length (same-record S)
+    ∙ plain-length (senderForm x) (proper (x .width)) _ _ (λ k. encrypt-block _ k (ke-block (S .formed)))
+    (λ k. encrypt-block _ k (km-block (S .formed))) (x .number) (x .last + 1) (S .message) (S .message-bytes)
+
+pub sealed-kept : (S : AcceptedSealing) → let x = S .link in
+    Kept (recordSize (senderForm x) (length (S .message))) (S .out) (sealOutput x (S .message) (S .tape) (S .out))
+sealed-kept S =
+    output-kept (returned S) _ (S .out) _ (sealed-length S) (room (S .link) (S .message) (S .tape) (length (S .out)) (S .accepted))
 
 -- the record carries the number after the link's last, and the link that comes back has that for its last
 pub next-number : (S : AcceptedSealing) → let x = S .link in

@@ -2,7 +2,7 @@
 -- Assumes nothing.
 use mathlib.Core.Path.{_≡_}
 use mathlib.Core.List.{List}
-use Prim.Native.Nat.{ℕ, _+_, _-_, _*_, _%_, _^_, _≤_, _<_}
+use Prim.Native.Nat.{ℕ, _+_, _-_, _*_, _%_, _^_, _≤_, _<_, min}
 use lib.ListN.{length, replicate}
 use Rattle.blocks.specs.Bytes.{Bytes, _⊕_, part, blockCount}
 use Rattle.baksheesh.specs.Baksheesh.{rounds, rotated}
@@ -86,6 +86,20 @@ pub record Joined (x : Sender) (m t : List ℕ) (k r : ℕ) : Type 0 where
   -- and the key shares to the key that it adds at the round's end; behind the last round, to that round's
   pub keys : part 32 16 (shown x m t k r 0) ⊕ (part 32 16 (shown x m t k r 1) ⊕ part 32 16 (shown x m t k r 2))
       ≡ plainKey (joinedKE x) (joinedKM x) (x .number) (x .last + 1) m k r
+
+module _ (x : Sender) (m t : List ℕ) (k r : ℕ) where
+  abbrev key : List ℕ
+  key = ofKey (x .ke) (x .km) (callOf (blockCount (length m)) k)
+
+  abbrev a : ℕ
+  a = ofKey 0 32 (callOf (blockCount (length m)) k)
+
+  -- the key shares of those lanes are the link's own three of the call's key, KE or KM, each with its mask, which stand at a on the tape:
+  -- c into share 0, d into share 1, c XOR d into share 2; each rotated as often as the round has it
+  pub record OwnKeys : Type 0 where
+    pub first : part 32 16 (shown x m t k r 0) ≡ rotated (min r rounds) (part 0 16 key ⊕ part a 16 t)
+    pub second : part 32 16 (shown x m t k r 1) ≡ rotated (min r rounds) (part 16 16 key ⊕ part (a + 16) 16 t)
+    pub third : part 32 16 (shown x m t k r 2) ≡ rotated (min r rounds) (part 32 16 key ⊕ (part a 16 t ⊕ part (a + 16) 16 t))
 
 -- those of the output of call k: the state shares XOR to the block that the plain cipher makes of the call's input, the key shares to
 -- the last round's key

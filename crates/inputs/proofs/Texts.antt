@@ -1,16 +1,13 @@
--- The ciphertext's blocks in shares, as they are made: cut, completed, joined; the last block's subkey. Assumes nothing.
+-- The ciphertext's blocks in shares, as they are made; the last block's subkey. Assumes nothing.
 use Rattle.prelude.proofs.{_≡_, sym, ap, ap₂, _∙_, Bool, cond, List, _++_, ℕ, suc, _+_, _-_, _*_, _%_, _≤_, arith, eqb, length, drop}
 use Rattle.prelude.proofs.{replicate, take-take, eq-eqb, ne-eqb}
-use Rattle.blocks.specs.Bytes.{_⊕_, zeros, part, put, piece}
-use Rattle.blocks.proofs.{Xor.⊕-zero, Parts.part-length, Parts.part-part, Parts.put-zeros}
-use Rattle.words.specs.Words.{unpacked}
-use Rattle.words.proofs.Words.{unpacked-block}
+use Rattle.blocks.specs.Bytes.{part, put}
+use Rattle.blocks.proofs.Parts.{part-length, part-part, put-zeros}
 use Rattle.modes.specs.Cmac.{doubled}
 use Rattle.links.specs.{Record.counterBlock, declared.Sender.Sender}
-use Rattle.shares.specs.{declared.Triple.Triple, Packed.sharesOf}
-use Rattle.masking.specs.Shares.{Shares, each, only, sharesIn}
+use Rattle.masking.specs.Shares.{Shares, three, each, only, sharesIn}
 use Rattle.masking.proofs.Shape.{shares-same}
-use Rattle.calls.specs.Sealed.{cut, completed, lastKey, textBlock}
+use Rattle.calls.specs.Sealed.{cut, lastKey, textBlock}
 use Rattle.inputs.specs.Inputs.{blockShares}
 
 -- the first n bytes of a block, written over zeros
@@ -37,20 +34,15 @@ module _ (n : ℕ) (s t : Shares) where
 
 -- ---- blocks
 
--- block j of the ciphertext, from the first n bytes of each output share and the completed message block d
-pub text-shares : (m o : List ℕ) (j n : ℕ) (t : Triple) (a b c d : List ℕ) → n ≡ length (piece j m) → d ≡ completed (piece j m)
-    → a ≡ cut n (part (48 * j) 16 o) → b ≡ cut n (part (48 * j + 16) 16 o) → c ≡ cut n (part (48 * j + 32) 16 o)
-    → unpacked (t .a) ≡ a ⊕ d → unpacked (t .b) ≡ b → unpacked (t .c) ≡ c → sharesOf t ≡ textBlock m j (sharesIn (part (48 * j) 48 o))
-text-shares m o j n t a b c d en ed ea eb ec ta tb tc =
-    shares-same (ta ∙ ap₂ _⊕_ (ea ∙ cell 0 (48 * j) (omega arith) (omega arith)) ed)
-    (other (t .b) (tb ∙ eb ∙ cell 16 (48 * j + 16) (omega arith) (omega arith)))
-    (other (t .c) (tc ∙ ec ∙ cell 32 (48 * j + 32) (omega arith) (omega arith)))
+-- the first n bytes of block j's output shares, where they stand
+pub cut-shares : (o : List ℕ) (j n : ℕ) {a b c : List ℕ} → a ≡ cut n (part (48 * j) 16 o) → b ≡ cut n (part (48 * j + 16) 16 o)
+    → c ≡ cut n (part (48 * j + 32) 16 o) → three a b c ≡ each (cut n) (sharesIn (part (48 * j) 48 o))
+cut-shares o j n p q r =
+    shares-same (p ∙ cell 0 (48 * j) (omega arith) (omega arith)) (q ∙ cell 16 (48 * j + 16) (omega arith) (omega arith))
+    (r ∙ cell 32 (48 * j + 32) (omega arith) (omega arith))
   where
-    cell : (p q : ℕ) → p + 16 ≤ 48 → q ≡ 48 * j + p → cut n (part q 16 o) ≡ cut (length (piece j m)) (part p 16 (part (48 * j) 48 o))
-    cell p q h e = ap₂ cut en (sym (part-part (48 * j) 48 p 16 q o h e))
-
-    other : (w : List ℕ) {x : List ℕ} → unpacked w ≡ x → unpacked w ≡ x ⊕ zeros
-    other w e = sym (⊕-zero (unpacked-block w)) ∙ ap (λ (z : List ℕ). z ⊕ zeros) e
+    cell : (p q : ℕ) → p + 16 ≤ 48 → q ≡ 48 * j + p → cut n (part q 16 o) ≡ cut n (part p 16 (part (48 * j) 48 o))
+    cell p q h e = ap (cut n) (sym (part-part (48 * j) 48 p 16 q o h e))
 
 -- block j of what is authenticated: the first, and another
 module _ (x : Sender) (m o : List ℕ) (j : ℕ) (s : Shares) where

@@ -1,15 +1,15 @@
 // What CMAC's calls of a sealing take in, on shares: the blocks of what is authenticated, and the last one's subkey.
 use links::Sender;
 use packing::pack;
-use packing::unpack;
 use shares::Triple;
+use shares::add_shares;
 use shares::only;
-use words::steps::add;
+use shares::pack_shares;
+use shares::unpack_shares;
 ghost use mathlib.Core.Path.{_≡_};
 ghost use Prim.Native.Nat.{_+_, _*_, _^_, _≤_, _<_};
 ghost use lib.ListN.{length};
 ghost use Rattle.blocks.specs.Bytes.{part, blockCount, piece};
-ghost use Rattle.words.specs.Words.{unpacked};
 ghost use Rattle.modes.specs.Cmac.{doubled};
 ghost use Rattle.links.specs.Record.{sequenceMost, longest};
 ghost use Rattle.masking.specs.Shares.{each, sharesIn};
@@ -19,23 +19,15 @@ ghost use Rattle.inputs.specs.Inputs.{outsSize, blockShares};
 
 // ---- the subkey
 
-fn double_share(s: [u32; 4]) -> [u32; 4]
-    ensures { λ r. ⌜ unpacked r ≡ doubled (unpacked s) ⌝ }
-{
-    pack(modes::double(unpack(s)))
-}
-
 fn double_shares(s: Triple) -> Triple
     ensures { λ r. ⌜ sharesOf r ≡ each doubled (sharesOf s) ⌝ }
 {
-    let a = s.a;
-    let b = s.b;
-    let c = s.c;
-    Triple {
-        a: double_share(a),
-        b: double_share(b),
-        c: double_share(c),
-    }
+    let b = unpack_shares(s);
+    pack_shares(blocks::three_blocks(
+        modes::double(blocks::block_at(&b, 0)),
+        modes::double(blocks::block_at(&b, 16)),
+        modes::double(blocks::block_at(&b, 32)),
+    ))
 }
 
 // The last block's subkey, share by share, of a message of `len` bytes.
@@ -81,14 +73,12 @@ fn text_block(message: &[u8], outs: &[u8], j: usize) -> Triple
 {
     let n = modes::width(message.len(), 16 * j);
     let at = 48 * j;
-    let a = cut_block(outs, at, n);
-    let b = cut_block(outs, at + 16, n);
-    let c = cut_block(outs, at + 32, n);
-    Triple {
-        a: add(pack(a), pack(completed_at(message, j))),
-        b: pack(b),
-        c: pack(c),
-    }
+    let outputs = pack_shares(blocks::three_blocks(
+        cut_block(outs, at, n),
+        cut_block(outs, at + 16, n),
+        cut_block(outs, at + 32, n),
+    ));
+    add_shares(outputs, only(pack(completed_at(message, j))))
 }
 
 // Block j of what is authenticated: counter block 0, then the ciphertext.

@@ -1,2 +1,3 @@
 pub mod LinkBytes
 pub mod Keying
+pub mod SaidKeyed

@@ -2,23 +2,32 @@
 use Rattle.prelude.proofs.{_≡_, sym, ap, _∙_, fun-ext, List, _++_, append-assoc, ℕ, _+_, _*_, arith, length, take, length-append, take-at}
 use Rattle.prelude.proofs.{drop-at, take-all}
 use Rattle.blocks.specs.Bytes.{Block, part}
-use Rattle.masking.specs.Shares.{Index, next, Shares, Blocks, join, sharesIn, flat, Reader, pairSize}
+use Rattle.masking.specs.Shares.{Index, i₀, i₁, i₂, next, Shares, Blocks, three, join, sharesIn, flat, Reader, pairSize}
 use Rattle.masking.specs.Stages.{Stages, masked, shownShares, lane, PlainStages, plainAfter}
 use Rattle.masking.proofs.Shape.{Reads, shares-same, StageBlocks, masked-blocks, shown-blocks}
 use Rattle.masking.proofs.Joins.{StageJoins, join-turn, masked-join, shown-join}
 
 -- ---- three blocks one behind the other
 
+-- they are read back
+pub three-back : (a b c : List ℕ) → length a ≡ 16 → length b ≡ 16 → length c ≡ 16 → sharesIn (a ++ (b ++ c)) ≡ three a b c
+three-back a b c p q r =
+    shares-same (take-at a (b ++ c) 16 p) (ap (take 16) (drop-at a (b ++ c) 16 p) ∙ take-at b c 16 q)
+    (rw (sym (append-assoc a b c))
+    (ap (take 16) (drop-at (a ++ b) c 32 (simp length-append (omega arith))) ∙ take-all 16 c (omega arith)))
+
 module _ {a b c : List ℕ} (p : Block a) (q : Block b) (r : Block c) where
+  read : sharesIn (a ++ (b ++ c)) ≡ three a b c
+  read = three-back a b c (p .size) (q .size) (r .size)
+
   pub first-part : part 0 16 (a ++ (b ++ c)) ≡ a
-  first-part = take-at a (b ++ c) 16 (p .size)
+  first-part = λ i. read i i₀
 
   pub second-part : part 16 16 (a ++ (b ++ c)) ≡ b
-  second-part = ap (take 16) (drop-at a (b ++ c) 16 (p .size)) ∙ take-at b c 16 (q .size)
+  second-part = λ i. read i i₁
 
   pub third-part : part 32 16 (a ++ (b ++ c)) ≡ c
-  third-part = rw (sym (append-assoc a b c))
-      (ap (take 16) (drop-at (a ++ b) c 32 (simp length-append (omega (arith, p .size, q .size)))) ∙ take-all 16 c (omega (arith, r .size)))
+  third-part = λ i. read i i₂
 
   pub parts-length : length (a ++ (b ++ c)) ≡ 48
   parts-length = simp length-append (omega (arith, p .size, q .size, r .size))

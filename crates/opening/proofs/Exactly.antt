@@ -1,12 +1,13 @@
--- Opening accepts exactly the records that sealing makes for this link with a number that its window admits, and returns that message: of
--- any form that a record can have, under any cipher that makes blocks of blocks. Assumes nothing.
+-- Opening accepts exactly the records that sealing makes for this link with a number that its window admits, and returns that message, past
+-- which the output is as it was: of any form that a record can have, under any cipher that makes blocks of blocks. Assumes nothing.
 use Rattle.prelude.proofs.{_≡_, refl, sym, ap, ap₂, _∙_, subst, _↔_, true, not, List, [], _∷_, ℕ, _^_, _≤_, _<_, arith, eqb, length}
 use Rattle.prelude.proofs.{inl, ltb-false, eqb-true, not-false, le-ltb}
 use Rattle.blocks.specs.Bytes.{Bytes, Block, MakesBlocks, sameBytes, part, put}
 use Rattle.blocks.proofs.{Parts.part-length, Parts.part-bytes, Numbers.part-lt, Same.same-true, Same.same-refl}
-use Rattle.answers.specs.Answer.{done, refused, Accepts, FirstOf, NoneOf}
+use Rattle.answers.specs.Answer.{done, refused, Accepts, FirstOf, NoneOf, Kept}
 use Rattle.answers.proofs.First.{done-none, accepts-none, none-accepts, if-done, if-refused, eq-not}
 use Rattle.answers.proofs.First as First
+use Rattle.answers.proofs.Output.{output-kept}
 use Rattle.links.specs.Record.{Proper, longest, formOf, added, recordSize, numberSize, headSize, usable, recordOf}
 use Rattle.links.specs.Record.{linkIn, sequenceIn, textIn, tagIn}
 use Rattle.links.specs.declared.Form.{Form}
@@ -36,6 +37,10 @@ module _ (f : Form) (P : Proper f) (C : List ℕ → List ℕ → List ℕ) (M :
   d-makes : MakesBlocks D
   d-makes = M (x .km) (F .km)
 
+  message-length : (r : List ℕ) → added f ≤ length r → length (messageIn f C x r) ≡ messageSize f r
+  message-length r h =
+      crypted-length E e-makes (x .number) (sequenceIn f r) (textIn f r) ∙ part-length (headSize f) (messageSize f r) r (omega arith)
+
   -- ---- from an accepted opening to the sealing
 
   module _ (r : List ℕ) (b : Bytes r) where
@@ -50,7 +55,7 @@ module _ (f : Form) (P : Proper f) (C : List ℕ → List ℕ → List ℕ) (M :
         let tag : rightTag f C x r ≡ tagIn f r =
         same-true (rightTag f C x r) (tagIn f r) (not-false (sameBytes (rightTag f C x r) (tagIn f r)) (h .1 .1 .1 .1 .1 .1 .1 .0)) in
         let text : crypted E n s (messageIn f C x r) ≡ textIn f r = crypted-twice E e-makes n s (textIn f r) in
-        let l = crypted-length E e-makes n s (textIn f r) ∙ part-length (headSize f) (messageSize f r) r (omega arith) in
+        let l = message-length r low in
         record {
           size = omega arith;
           bytes = crypted-bytes E e-makes n s (textIn f r) (part-bytes (headSize f) (messageSize f r) r b);
@@ -125,6 +130,15 @@ module _ (f : Form) (P : Proper f) (C : List ℕ → List ℕ → List ℕ) (M :
         link = sym (if-done answer (accepting x (sequenceIn f r)) x) ∙ ap (accepting x) (sequence r m s S);
         out = sym (if-done answer (put 0 (messageIn f C x r) o) o) ∙ ap (λ (z : List ℕ). put 0 z o) (message r m s S);
       }
+
+  -- past the message the output is as it was
+  pub opened-kept : (r o : List ℕ) → Accepts (openAnswer f C x r (length o)) → Kept (messageSize f r) o (openOutput f C x r o)
+  unfolding openAnswer
+  opened-kept r o a =
+      let h = accepts-none (openCauses f C x r (length o)) _ tt a in
+      let low = ltb-false (length r) (recordSize f 0) (h .1 .0) in
+      output-kept (done-none (openCauses f C x r (length o)) _ h) (messageIn f C x r) o _ (message-length r (omega arith))
+      (ltb-false (length o) (messageSize f r) (h .1 .1 .1 .1 .0))
 
   -- the link that is left counts as keyed as well
   pub accepting-usable : (r m : List ℕ) (s : ℕ) → usable f (x .keyed) (x .window .highest) ≡ true → Sealed f C x r m s

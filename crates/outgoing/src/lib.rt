@@ -1,7 +1,6 @@
 // What leaves the shares: the record of a sealing, and a lane.
 use links::Form;
 use runs::Seen;
-use shares::Triple;
 use shares::unpack_shares;
 ghost use mathlib.Core.Path.{_≡_};
 ghost use Prim.Native.Nat.{_+_, _≤_, _<_};
@@ -74,31 +73,14 @@ pub fn lane_of(seen: Seen, i: u32) -> [u8; 48]
     requires { ⌜ i < 3 ⌝ }
     ensures { λ r. ⌜ r ≡ laneIn seen (indexOf i) ⌝ }
 {
-    let s = seen.state;
-    let k = seen.key;
-    let s0 = s.a;
-    let s1 = s.b;
-    let s2 = s.c;
-    let k0 = k.a;
-    let k1 = k.b;
-    let k2 = k.c;
-    if i == 0 {
-        return unpack_shares(Triple {
-            a: s1,
-            b: s2,
-            c: k0,
-        });
-    }
-    if i == 1 {
-        return unpack_shares(Triple {
-            a: s2,
-            b: s0,
-            c: k1,
-        });
-    }
-    unpack_shares(Triple {
-        a: s0,
-        b: s1,
-        c: k2,
-    })
+    let state = seen.state;
+    let key = seen.key;
+    let states = unpack_shares(state);
+    let keys = unpack_shares(key);
+    let own = i as usize;
+    blocks::three_blocks(
+        blocks::block_at(&states, 16 * ((own + 1) % 3)),
+        blocks::block_at(&states, 16 * ((own + 2) % 3)),
+        blocks::block_at(&keys, 16 * own),
+    )
 }

@@ -1,18 +1,20 @@
--- Opening on a stored link accepts exactly the records that sealing makes for it with an admitted number; a refusal changes no byte.
--- Assumes nothing.
-use Rattle.prelude.proofs.{_≡_, sym, ap, _∙_, _↔_, true, List, ℕ, _≤_, length}
+-- Opening on a stored link accepts exactly the records that sealing makes for it with an admitted number; a refusal changes no byte; when
+-- the link is not keyed. Assumes nothing.
+use Rattle.prelude.proofs.{_≡_, refl, sym, ap, _∙_, _↔_, Iff·trans, true, List, ℕ, _≤_, length, drop}
 use Rattle.blocks.specs.Bytes.{Bytes, Block, MakesBlocks, put}
-use Rattle.answers.specs.Answer.{refused, Accepts}
-use Rattle.answers.proofs.First.{if-done, if-refused}
+use Rattle.answers.specs.Answer.{refused, Accepts, Kept}
+use Rattle.answers.proofs.First.{refused-here, if-done, if-refused, fails-exactly}
 use Rattle.baksheesh.specs.Baksheesh.{encrypt}
 use Rattle.baksheesh.proofs.Inverse.{encrypt-block}
 use Rattle.links.specs.{Record.recordSize, Record.usable, declared.Form.Form}
 use Rattle.links.proofs.Widths.{proper}
-use Rattle.opening.specs.{Open.accepting, Exactly.Sealed, Receivers.receiverForm, declared.Receiver.Receiver}
+use Rattle.layout.specs.Keyed.{SaysKeyed}
+use Rattle.opening.specs.Open.{messageSize, openCauses, openAnswer, accepting}
+use Rattle.opening.specs.{Exactly.Sealed, Receivers.receiverForm, declared.Receiver.Receiver}
 use Rattle.opening.proofs.Exactly as Exactly
 use Rattle.receiving.specs.Stored.{receiverIn, receiverBytes}
 use Rattle.receiving.specs.Calls.{receiverKeying, keyedReceiver, openedAnswer, openedLink, openedOutput}
-use Rattle.receiving.proofs.Stored.{receiver-storable}
+use Rattle.receiving.proofs.Stored.{receiver-storable, receiver-keyed-exactly}
 
 makes : (k : List ℕ) → Block k → MakesBlocks (encrypt k)
 makes k p b w = encrypt-block k b p w
@@ -39,6 +41,19 @@ module _ (link : List ℕ) (b : Bytes link) where
   stored-opened-exactly r o m s keyed room S =
       let O = Exactly.opened-exactly f (proper (x .width)) encrypt makes x (receiver-storable link b .formed) r o m s keyed room S in
       (O .out, sym (if-done (O .answer) _ link) ∙ ap receiverBytes (if-done (O .answer) _ x ∙ O .link))
+
+  -- past the message the output is as it was
+  pub stored-opened-kept : (r o : List ℕ) → Accepts (openedAnswer link r (length o)) → Kept (messageSize f r) o (openedOutput link r o)
+  stored-opened-kept = Exactly.opened-kept f (proper (x .width)) encrypt makes x (receiver-storable link b .formed)
+
+-- ---- opening refuses under 20 exactly where the bytes do not say a link that counts as keyed
+
+pub open-unkeyed-exactly : (link r : List ℕ) (o : ℕ) → Bytes link → openedAnswer link r o ≡ refused 20 ↔ (SaysKeyed 54 53 link → ⊥)
+unfolding openAnswer
+open-unkeyed-exactly link r o b =
+    let x = receiverIn link in
+    Iff·trans (refused-here 20 _ (drop 1 (openCauses (receiverForm x) encrypt x r o)) _ refl)
+    (fails-exactly _ (receiver-keyed-exactly link b))
 
 -- ---- a refusal changes no byte
 

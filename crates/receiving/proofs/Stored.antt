@@ -1,16 +1,18 @@
 -- A receiving link's bytes say that link, bytes whose flag and width are 0 or 1 are those of the link that they say, and what bytes say
--- can be stored. Assumes nothing.
-use Rattle.prelude.proofs.{_≡_, refl, sym, ap, ap₂, _∙_, true, false, List, [], _∷_, _++_, ℕ, _+_, _≤_, arith}
+-- can be stored; when it counts as keyed. Assumes nothing.
+use Rattle.prelude.proofs.{_≡_, refl, sym, ap, ap₂, _∙_, _↔_, true, false, List, [], _∷_, _++_, ℕ, _+_, _≤_, arith}
 use Rattle.prelude.proofs.{length, take, drop, getD, length-append, length-replicate, take-at, drop-drop, take-append-drop, getD-drop}
 use Rattle.prelude.proofs.{getD-append-add}
 use Rattle.blocks.specs.Bytes.{Bytes, Block, bigEndian, value, part}
 use Rattle.blocks.proofs.{Xor.bytes-replicate, Parts.part-length, Parts.part-bytes}
 use Rattle.blocks.proofs.Numbers.{part-lt, bigEndian-length, bigEndian-says, bigEndian-part}
 use Rattle.answers.proofs.First.{either}
-use Rattle.links.specs.{Record.numberSize, Record.told, declared.Width.Width}
+use Rattle.links.specs.{Record.numberSize, Record.usable, Record.told, declared.Width.Width}
 use Rattle.layout.specs.Layout.{lastSize, numberAt, lastAt, keysAt, widthByte, sound}
+use Rattle.layout.specs.Keyed.{SaysKeyed}
 use Rattle.layout.proofs.LinkBytes.{bytes-say, bytes-said, width-read, width-byte, width-written, last-byte, sound-size, is-sound}
-use Rattle.opening.specs.{Receivers.freshReceiver, declared.Receiver.Receiver}
+use Rattle.layout.proofs.SaidKeyed.{said-keyed}
+use Rattle.opening.specs.{Receivers.freshReceiver, Receivers.receiverForm, declared.Receiver.Receiver}
 use Rattle.receiving.specs.Stored.{wordSize, wordAt, widthAt, receiverSize, receiverAt, receiverIn, tailOf, receiverBytes}
 use Rattle.receiving.specs.Stored.{Storable}
 
@@ -102,3 +104,11 @@ receiver-storable b h = either Storable (sound receiverSize widthAt b) (λ e. sa
       highest = omega arith;
       word = omega arith;
     }
+
+-- ---- bytes say a link that counts as keyed exactly where they are 54, the first is 1, the last, its width, is 0 or 1, and on a narrow
+-- link the highest number, in bytes 5 to 12, has 32 bits at most
+
+pub receiver-keyed-exactly : (b : List ℕ) → Bytes b → let x = receiverIn b in
+    usable (receiverForm x) (x .keyed) (x .window .highest) ≡ true ↔ SaysKeyed 54 53 b
+receiver-keyed-exactly b h =
+    said-keyed receiverSize widthAt b h (omega arith) (λ (x : Receiver). usable (receiverForm x) (x .keyed) (x .window .highest)) refl refl

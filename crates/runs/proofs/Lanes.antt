@@ -3,7 +3,7 @@ use Rattle.prelude.proofs.{_≡_, refl, sym, _∙_, _↔_, Iff·trans, Iff·and
 use Rattle.prelude.proofs.{leb-true, le-leb, ltb-true, lt-ltb, ltb-false, le-ltb, false≢true}
 use Rattle.blocks.proofs.Same.{both-true}
 use Rattle.answers.specs.Answer.{done, refused, Cause, _when_, first, NoneOf}
-use Rattle.answers.proofs.First.{lacks, refused-here, refused-later, accepts-none, none-accepts}
+use Rattle.answers.proofs.First.{lacks, refused-here, refused-later, accepts-none, none-accepts, fails-exactly}
 use Rattle.runs.specs.Lanes.{within, Within, laneSize, roundCauses, laneCauses, TellsNumber}
 
 -- ---- a number in its range or not, by a test t of it
@@ -19,8 +19,7 @@ inside true a b n e = (λ h. is-within a b n .0 (sym e), λ w. refl)
 inside false a b n e = (λ h. absurd (false≢true (sym h)), λ w. absurd (false≢true (e ∙ is-within a b n .1 w)))
 
 pub outside : (t : Bool) (a b n : ℕ) → t ≡ within a b n → not t ≡ true ↔ (Within a b n → ⊥)
-outside true a b n e = (λ h. absurd (false≢true h), λ f. absurd (f (is-within a b n .0 (sym e))))
-outside false a b n e = (λ h w. false≢true (e ∙ is-within a b n .1 w), λ f. refl)
+outside t a b n e = fails-exactly t (λ h. is-within a b n .0 (sym e ∙ h), λ w. e ∙ is-within a b n .1 w)
 
 -- ---- a number's own cause, and a cause before others
 

@@ -9,7 +9,7 @@ use Rattle.baksheesh.specs.Baksheesh.{rounds}
 use Rattle.masking.specs.Shares.{isFirst, flat, at, masksAt}
 use Rattle.masking.specs.{Call.pairCount, OneTape.ExactlyOne, OneTape.roundOnLane}
 use Rattle.calls.specs.{Numbered.callCount, Numbered.tapeNeed, Sealed.tagShares, Entry.indexOf, Entry.sealShares}
-use Rattle.calls.specs.Demand.{masksOf, SameLane, Joined, OutputJoined}
+use Rattle.calls.specs.Demand.{masksOf, SameLane, Joined, OwnKeys, OutputJoined}
 use Rattle.calls.proofs.Lanes.{returned, tag-size}
 use Rattle.calls.proofs.ProbeProof as Value
 use Rattle.sending.specs.{Stored.senderIn, Calls.countSize, Calls.sharesSize, Calls.sharesOutput}
@@ -55,6 +55,11 @@ stored-fits-every-key S T e k r i k₁ kₙ r₁ rₙ l = record {
 pub stored-lanes-join : (S : StoredSealing) (k r : ℕ) → 1 ≤ k → k ≤ callCount (blockCount (length (S .message))) → 1 ≤ r → r ≤ pairCount
     → Joined (senderIn (S .link)) (S .message) (S .tape) k r
 stored-lanes-join S = Value.lanes-join (said S)
+
+-- and show the link's own three key shares, each with its mask
+pub stored-own-keys : (S : StoredSealing) (k r : ℕ) → 1 ≤ k → k ≤ callCount (blockCount (length (S .message))) → 1 ≤ r → r ≤ pairCount
+    → OwnKeys (senderIn (S .link)) (S .message) (S .tape) k r
+stored-own-keys S = Value.own-keys (said S)
 
 pub stored-output-lanes-join : (S : StoredSealing) (k : ℕ) → 1 ≤ k → k ≤ callCount (blockCount (length (S .message)))
     → OutputJoined (senderIn (S .link)) (S .message) (S .tape) k

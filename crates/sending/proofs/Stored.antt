@@ -1,13 +1,15 @@
 -- A sending link's bytes say that link, bytes whose flag and width are 0 or 1 are those of the link that they say, and what bytes say is
--- formed. Assumes nothing.
-use Rattle.prelude.proofs.{_≡_, refl, sym, ap, _∙_, true, false, List, [], _∷_, ℕ, _+_, _^_, _≤_, _<_, arith, length}
+-- formed; when it counts as keyed. Assumes nothing.
+use Rattle.prelude.proofs.{_≡_, refl, sym, ap, _∙_, _↔_, true, false, List, [], _∷_, ℕ, _+_, _^_, _≤_, _<_, arith, length}
 use Rattle.prelude.proofs.{getD, length-replicate, getD-drop}
 use Rattle.blocks.specs.Bytes.{Bytes}
 use Rattle.blocks.proofs.{Xor.bytes-replicate, Parts.part-length, Parts.part-bytes, Numbers.part-lt}
 use Rattle.answers.proofs.First.{either}
-use Rattle.links.specs.{Record.numberSize, Record.told, Links.freshSender, declared.Sender.Sender}
+use Rattle.links.specs.{Record.numberSize, Record.usable, Record.told, Links.freshSender, Links.senderForm, declared.Sender.Sender}
 use Rattle.layout.specs.Layout.{lastSize, numberAt, lastAt, keysAt, widthByte, sound}
+use Rattle.layout.specs.Keyed.{SaysKeyed}
 use Rattle.layout.proofs.LinkBytes.{bytes-say, bytes-said, width-read, width-byte, width-written, last-byte, sound-size, is-sound}
+use Rattle.layout.proofs.SaidKeyed.{said-keyed}
 use Rattle.calls.specs.Demand.{Formed}
 use Rattle.sending.specs.Stored.{widthAt, senderSize, senderAt, senderIn, senderBytes}
 
@@ -79,3 +81,11 @@ sender-formed b h = either Formed (sound senderSize widthAt b) (λ e. said (soun
       km-size = length-replicate {A = ℕ} 48 0;
       km-bytes = bytes-replicate 48;
     }
+
+-- ---- bytes say a link that counts as keyed exactly where they are 110, the first is 1, the last, its width, is 0 or 1, and on a narrow
+-- link the last number, in bytes 5 to 12, has 32 bits at most
+
+pub sender-keyed-exactly : (b : List ℕ) → Bytes b → let x = senderIn b in
+    usable (senderForm x) (x .keyed) (x .last) ≡ true ↔ SaysKeyed 110 109 b
+sender-keyed-exactly b h =
+    said-keyed senderSize widthAt b h (omega arith) (λ (x : Sender). usable (senderForm x) (x .keyed) (x .last)) refl refl

@@ -18,11 +18,11 @@ ghost use Rattle.masking.specs.Sbox.{sboxShare};
 ghost use Rattle.masking.specs.Call.{laneRound, shareRound, pairCount, callSize};
 ghost use Rattle.shares.specs.Packed.{sharesOf, Onward, CallDone};
 
-// Three shares of a block, each in packed form.
+// Three shares of a block, each in packed form. No other crate reaches one of them alone: what it does, it does share by share.
 pub struct Triple {
-    pub a: [u32; 4],
-    pub b: [u32; 4],
-    pub c: [u32; 4],
+    a: [u32; 4],
+    b: [u32; 4],
+    c: [u32; 4],
 }
 
 // A block in share 0, zeros in the others.
@@ -54,11 +54,7 @@ pub fn unpack_shares(s: Triple) -> [u8; 48]
     let a = s.a;
     let b = s.b;
     let c = s.c;
-    let mut bytes = [0u8; 48];
-    blocks::put_bytes(&unpack(a), &mut bytes, 0);
-    blocks::put_bytes(&unpack(b), &mut bytes, 16);
-    blocks::put_bytes(&unpack(c), &mut bytes, 32);
-    bytes
+    blocks::three_blocks(unpack(a), unpack(b), unpack(c))
 }
 
 // A word of ones, or of zeros.
@@ -164,8 +160,8 @@ pub const CALL: usize = PAIR * PAIRS;
 
 // A pair of masks, and the count of tape bytes read with it.
 pub struct Drawn {
-    pub u: [u32; 4],
-    pub v: [u32; 4],
+    u: [u32; 4],
+    v: [u32; 4],
     pub used: usize,
 }
 

@@ -1,31 +1,33 @@
--- The values hold: antt computes one test over all rows. Assumes nothing.
-use Rattle.prelude.proofs.{_≡_, refl, Bool, true, _&&_, List, [], _∷_}
+-- The values hold. Assumes nothing.
+use Rattle.prelude.proofs.{refl}
 use Rattle.bits.specs.Bit.{bit}
-use Rattle.blocks.specs.Bytes.{_⊕_, zeros, sameBytes, tab, bigEndian, value}
+use Rattle.blocks.specs.Bytes.{_⊕_, zeros, tab, bigEndian, value}
 use Rattle.blocks.specs.Bits.{blockOf, bitAt, cells, rearranged, eachCell}
-use Rattle.blocks.proofs.Same.{both-true, same-true}
-use Rattle.baksheesh.specs.Baksheesh.{constant}
-use Rattle.modes.specs.Cmac.{doubled, chain, lastBlock, subkey₁, cmac}
+use Rattle.body.specs.Entry.{readAnswer, valuesAnswer, writeAnswer}
+use Rattle.baksheesh.specs.Baksheesh.{constant, after, encrypt}
+use Rattle.engines.specs.Block.{blockAnswer}
+use Rattle.modes.specs.Ctr.{ctrTo, ctr}
+use Rattle.modes.specs.Cmac.{doubled, chain, lastBlock, subkey₁, subkey₂, cmac}
 use Rattle.links.specs.Record.{counterBlock, recordOf}
+use Rattle.links.specs.Links.{keyAnswer}
+use Rattle.masking.specs.Shares.{at}
 use Rattle.masking.specs.Sbox.{sboxShare}
+use Rattle.masking.specs.Stages.{state, masked, shownShares, lane}
+use Rattle.runs.specs.Run.{keyShares, inputOf, laneOf}
 use Rattle.window.specs.Window.{shifted}
+use Rattle.plain.specs.Plain.{plainRecord}
 use Rattle.plain.specs.Entry.{plainAnswer}
 use Rattle.opening.specs.Open.{openAnswer}
-use Rattle.layout.specs.Keying.{keyingAnswer}
-use Rattle.sending.specs.Calls.{sealedAnswer}
-use Rattle.values.specs.Values.{Row, _is_, rows, Hold}
-
--- one test over all rows
-same : List Row → Bool
-same [] = true
-same ((a is b) ∷ rs) = sameBytes a b && same rs
-
-hold : (rs : List Row) → same rs ≡ true → Hold rs
-unfolding same
-hold [] e = tt
-hold ((a is b) ∷ rs) e = let both = both-true (sameBytes a b) (same rs) e in (same-true a b (both .0), hold rs (both .1))
+use Rattle.calls.specs.Numbered.{callOf}
+use Rattle.calls.specs.Sealed.{macBlock, subkey, inputFrom}
+use Rattle.calls.specs.Sealed as Sealed
+use Rattle.calls.specs.Entry.{sealAnswer, reportAnswer}
+use Rattle.values.specs.{Row.Hold, Values.rows}
+use Rattle.values.proofs.Rows.{same, hold}
 
 pub values-hold : Hold rows
-unfolding same bit blockOf bitAt cells rearranged eachCell constant doubled chain lastBlock subkey₁ cmac sboxShare counterBlock recordOf
-    bigEndian value tab _⊕_ zeros shifted openAnswer plainAnswer keyingAnswer sealedAnswer
+unfolding same bit blockOf bitAt cells rearranged eachCell constant after encrypt ctrTo ctr doubled chain lastBlock subkey₁ subkey₂ cmac
+    sboxShare counterBlock recordOf bigEndian value tab _⊕_ zeros at state masked shownShares lane keyShares inputOf laneOf callOf macBlock
+    Sealed.chain subkey inputFrom shifted plainRecord blockAnswer keyAnswer readAnswer valuesAnswer writeAnswer plainAnswer openAnswer
+    sealAnswer reportAnswer
 values-hold = hold rows refl

@@ -1,27 +1,33 @@
--- `lane_of` meets its contract, lane by lane. Assumes nothing.
-use Rattle.prelude.proofs.{_≡_, ap, _∙_, List, ℕ, arith, needs}
-use Rattle.runs.specs.declared.Seen.{Seen}
+-- `lane_of` meets its contract: two shares of the state and one of the key, one behind the other. Assumes nothing.
+use Rattle.prelude.proofs.{_≡_, ap, _∙_, List, _++_, ℕ, _+_, _*_, _%_, _<_, arith, needs}
+use Rattle.blocks.specs.Bytes.{part}
+use Rattle.masking.specs.Shares.{flat}
+use Rattle.shares.specs.{declared.Triple.Triple, Packed.sharesOf}
+use Rattle.shares.proofs.Onward.{packed-blocks}
 use Rattle.calls.specs.Entry.{indexOf}
-use Rattle.outgoing.specs.Outgoing.{laneIn}
+use Rattle.calls.proofs.Lanes.{index-next, index-after, part-flat}
 use Rattle.outgoing.proofs.lane_of as fn
 
-numbered : (s : Seen) (i k : ℕ) (r : List ℕ) → k ≡ i → r ≡ laneIn s (indexOf k) → r ≡ laneIn s (indexOf i)
-numbered s i k r e h = h ∙ ap (λ (n : ℕ). laneIn s (indexOf n)) e
+-- share k of the shares t, whose bytes are b
+share : (t : Triple) {b s : List ℕ} → b ≡ flat (sharesOf t) → (k : ℕ) → k < 3 → s ≡ part (16 * k) 16 b → s ≡ sharesOf t (indexOf k)
+share t e k l h = h ∙ ap (part (16 * k) 16) e ∙ part-flat (sharesOf t) (packed-blocks t) k l
 
 returns : fn.Tie.Need-returns
 returns c =
-    let a = c .before .before .before .before .before .before .before .before .before .before .args in
-    numbered (a .seen) (a .i) 0 _ (omega arith) (c .unpack-shares .ensures)
-
-returns-2 : fn.Tie.Need-returns-2
-returns-2 c =
-    let a = c .before .before .before .before .before .before .before .before .before .before .before .args in
-    numbered (a .seen) (a .i) 1 _ (omega arith) (c .unpack-shares2 .ensures)
-
-returns-3 : fn.Tie.Need-returns-3
-returns-3 c =
-    let a = c .before .before .before .before .before .before .before .before .before .before .before .args in
-    numbered (a .seen) (a .i) 2 _ (omega arith) (c .unpack-shares3 .ensures)
+    let third = c .before in
+    let second = third .before .before in
+    let first = second .before .before in
+    let keys = first .before .before in
+    let a = keys .before .before .before .before .args in
+    let i = a .i in
+    let s = a .seen .state in
+    let bytes = keys .before .unpack-shares .ensures in
+    let next = share s bytes ((i + 1) % 3) (omega arith) (first .block-at .ensures) ∙ ap (sharesOf s) (index-next i (omega arith)) in
+    let after = share s bytes ((i + 2) % 3) (omega arith) (second .block-at2 .ensures) ∙ ap (sharesOf s) (index-after i (omega arith)) in
+    let key = share (a .seen .key) (keys .unpack-shares2 .ensures) i (omega arith) (third .block-at3 .ensures) in
+    c .three-blocks .ensures ∙ λ j. next j ++ (after j ++ key j)
 
 pub lane-of-spec : {M : Type 1} → fn.Statement.statement M
-lane-of-spec = fn.Tie.close (fn.Tie.spec (λ c κs. search needs) returns (λ c κs. search needs) returns-2 (λ c κs. search needs) returns-3)
+lane-of-spec = fn.Tie.close (fn.Tie.spec (λ c κs. search needs) (λ c κs. search needs) (λ c. search needs) (λ c. search needs)
+    (λ c. search needs) (λ c κs. search needs) (λ c. search needs) (λ c. search needs) (λ c. search needs) (λ c κs. search needs)
+    (λ c. search needs) (λ c. search needs) (λ c κs. search needs) (λ c κs. search needs) returns)

@@ -1,0 +1,98 @@
+-- Worked values of links in their bytes, and what the calls on them answer to bytes that say no link. Assumes nothing.
+use mathlib.Core.Bool.{true}
+use mathlib.Core.List.{List, [], _∷_, _++_, map}
+use Prim.Native.Nat.{ℕ, _+_}
+use lib.ListN.{replicate, take, drop}
+use Rattle.answers.specs.Answer.{numberOf}
+use Rattle.baksheesh.specs.Baksheesh.{encrypt}
+use Rattle.links.specs.Record.{formOf}
+use Rattle.links.specs.Links.{freshSender}
+use Rattle.links.specs.declared.Width.the-variants.{Narrow, Wide}
+use Rattle.plain.specs.Plain.{plainRecord}
+use Rattle.opening.specs.Receivers.{freshReceiver}
+use Rattle.receiving.specs.Stored.{receiverBytes}
+use Rattle.receiving.specs.Calls.{receiverKeying, keyedReceiver, openedAnswer}
+use Rattle.sending.specs.Stored.{senderBytes}
+use Rattle.sending.specs.Calls.{senderKeying, keyedSender, sealedAnswer}
+use Rattle.values.specs.Row.{Row, _is_}
+use Rattle.values.specs.Windows.{early, later, receiverWith}
+use Rattle.values.specs.Refusals.{bytes, recordWith, senderWith}
+
+-- b with the byte v at p
+abbrev pub with : ℕ → ℕ → List ℕ → List ℕ
+with p v b = take p b ++ (v ∷ drop (p + 1) b)
+
+-- keyed links: a sender with the last number l, and a receiver with 1 to 3 accepted
+abbrev pub senderAfter : ℕ → List ℕ
+senderAfter l = senderBytes (senderWith true Narrow l)
+
+abbrev pub receiver : List ℕ
+receiver = receiverBytes (receiverWith true Narrow early)
+
+-- what sealing m bytes on a link's bytes answers, with a tape of t, room for o and a second slice of s
+abbrev pub sealedOn : ℕ → ℕ → ℕ → ℕ → List ℕ → ℕ
+sealedOn m t o s b = numberOf (sealedAnswer b (bytes m) (bytes t) o s)
+
+-- no message with no tape: 20, or else 21 or 3
+abbrev pub keyedAs : List ℕ → ℕ
+keyedAs = sealedOn 0 0 0 0
+
+-- what opening on a link's bytes answers to a record of no bytes: 20, or else 7
+abbrev pub openedOn : List ℕ → ℕ
+openedOn b = numberOf (openedAnswer b [] 0)
+
+-- what the receiver answers to the record r with room for o bytes; one that sealing makes for it
+abbrev pub openedWith : ℕ → List ℕ → ℕ
+openedWith o r = numberOf (openedAnswer receiver r o)
+
+abbrev pub sealedWith : ℕ → List ℕ
+sealedWith s = plainRecord (formOf Narrow) (encrypt (replicate 16 0xaa)) (encrypt (replicate 16 0xbb)) 7 s []
+
+abbrev pub linkRows : List Row
+linkRows =
+    -- a sender and a receiver keyed as link 7, told 2 and 0
+    (keyedSender (replicate 110 0) 7 2 (replicate 48 0xaa ++ replicate 48 0xbb)
+    is (1 ∷ 0 ∷ 0 ∷ 0 ∷ 7 ∷ (replicate 8 0 ++ (replicate 48 0xaa ++ (replicate 48 0xbb ++ (1 ∷ []))))))
+    ∷ (keyedReceiver (replicate 54 1) 7 0 (replicate 16 0xaa ++ replicate 16 0xbb)
+    is (1 ∷ 0 ∷ 0 ∷ 0 ∷ 7 ∷ (replicate 8 0 ++ (replicate 16 0xaa ++ (replicate 16 0xbb ++ replicate 9 0)))))
+    -- the bytes of a sender and of a receiver: the width at the end, behind a receiver's word
+    ∷ (senderBytes (senderWith true Wide 0x0102030405060708)
+    is (1 ∷ 0 ∷ 0 ∷ 0 ∷ 7 ∷ 1 ∷ 2 ∷ 3 ∷ 4 ∷ 5 ∷ 6 ∷ 7 ∷ 8 ∷ (replicate 96 0 ++ (1 ∷ []))))
+    ∷ (receiverBytes (receiverWith true Narrow later)
+    is (1 ∷ 0 ∷ 0 ∷ 0 ∷ 7 ∷ 0 ∷ 0 ∷ 0 ∷ 0 ∷ 0 ∷ 0 ∷ 0 ∷ 66
+    ∷ (replicate 16 0xaa ++ (replicate 16 0xbb ++ (0x80 ∷ 0 ∷ 0 ∷ 0 ∷ 0 ∷ 0 ∷ 0 ∷ 1 ∷ 0 ∷ [])))))
+    -- fresh links
+    ∷ (senderBytes freshSender is replicate 110 0)
+    ∷ (receiverBytes freshReceiver is replicate 54 0)
+    -- keying: a link or keys of a byte too few or too many, and both
+    ∷ (map (λ n. numberOf (senderKeying (bytes n) (bytes 96))) (109 ∷ 110 ∷ 111 ∷ []) is (1 ∷ 0 ∷ 1 ∷ []))
+    ∷ (map (λ n. numberOf (senderKeying (bytes 110) (bytes n))) (95 ∷ 96 ∷ 97 ∷ []) is (1 ∷ 0 ∷ 1 ∷ []))
+    ∷ (map (λ n. numberOf (receiverKeying (bytes n) (bytes 32))) (53 ∷ 54 ∷ 55 ∷ []) is (1 ∷ 0 ∷ 1 ∷ []))
+    ∷ (map (λ n. numberOf (receiverKeying (bytes 54) (bytes n))) (31 ∷ 32 ∷ 33 ∷ []) is (1 ∷ 0 ∷ 1 ∷ []))
+    ∷ ((numberOf (senderKeying (bytes 109) (bytes 95)) ∷ numberOf (receiverKeying (bytes 53) (bytes 31)) ∷ []) is (1 ∷ 1 ∷ []))
+    -- a link's first byte: 1 if keyed and anything else if not
+    ∷ (map (λ v. keyedAs (with 0 v (senderAfter 0))) (0 ∷ 1 ∷ 2 ∷ 255 ∷ []) is (20 ∷ 3 ∷ 20 ∷ 20 ∷ []))
+    ∷ (map (λ v. openedOn (with 0 v receiver)) (0 ∷ 1 ∷ 2 ∷ 255 ∷ []) is (20 ∷ 7 ∷ 20 ∷ 20 ∷ []))
+    -- its width: 0 or 1
+    ∷ (map (λ v. keyedAs (with 109 v (senderAfter 0))) (0 ∷ 1 ∷ 2 ∷ 255 ∷ []) is (3 ∷ 3 ∷ 20 ∷ 20 ∷ []))
+    ∷ (map (λ v. openedOn (with 53 v receiver)) (0 ∷ 1 ∷ 2 ∷ 255 ∷ []) is (7 ∷ 7 ∷ 20 ∷ 20 ∷ []))
+    -- its length: a byte too few, a byte too many, none
+    ∷ ((keyedAs (take 109 (senderAfter 0)) ∷ keyedAs (senderAfter 0 ++ (0 ∷ [])) ∷ keyedAs [] ∷ []) is (20 ∷ 20 ∷ 20 ∷ []))
+    ∷ ((openedOn (take 53 receiver) ∷ openedOn (receiver ++ (0 ∷ [])) ∷ openedOn [] ∷ []) is (20 ∷ 20 ∷ 20 ∷ []))
+    -- its last number: at and above the greatest of either width; a narrow receiver's highest
+    ∷ (map (λ l. keyedAs (senderAfter l)) (4294967294 ∷ 4294967295 ∷ 4294967296 ∷ []) is (3 ∷ 21 ∷ 20 ∷ []))
+    ∷ (map (λ l. keyedAs (with 109 1 (senderAfter l))) (4294967295 ∷ 18446744073709551614 ∷ 18446744073709551615 ∷ []) is (3 ∷ 3 ∷ 21 ∷ []))
+    ∷ ((openedOn (with 8 1 receiver) ∷ openedOn (with 9 255 receiver) ∷ openedOn (with 53 1 (with 8 1 receiver)) ∷ []) is (20 ∷ 7 ∷ 7 ∷ []))
+    -- sealing: two neighbouring causes at once, the outputs' last; 4 for either output, a byte too short
+    ∷ ((keyedAs (with 0 0 (senderAfter 4294967295)) ∷ sealedOn 257 0 0 0 (senderAfter 4294967295) ∷ sealedOn 257 0 0 0 (senderAfter 0) ∷ [])
+    is (20 ∷ 21 ∷ 2 ∷ []))
+    ∷ ((sealedOn 0 2367 23 51 (senderAfter 0) ∷ sealedOn 0 2367 24 51 (senderAfter 0) ∷ []) is (3 ∷ 3 ∷ []))
+    ∷ ((sealedOn 0 2368 24 52 (senderAfter 0) ∷ sealedOn 0 2368 23 52 (senderAfter 0) ∷ sealedOn 0 2368 24 51 (senderAfter 0) ∷ [])
+    is (0 ∷ 4 ∷ 4 ∷ []))
+    -- opening likewise: another link and no room, no room and the number 0, that number; then a number accepted before with a wrong tag,
+    -- a wrong tag, and the right one
+    ∷ (map (openedWith 1)
+    (recordWith Narrow 8 4 2 ∷ recordWith Narrow 7 4 2 ∷ recordWith Narrow 7 0 2 ∷ recordWith Narrow 7 0 1 ∷ [])
+    is (8 ∷ 4 ∷ 4 ∷ 35 ∷ []))
+    ∷ (map (openedWith 0) (recordWith Narrow 7 2 0 ∷ recordWith Narrow 7 4 0 ∷ sealedWith 4 ∷ []) is (22 ∷ 9 ∷ 0 ∷ []))
+    ∷ []

@@ -1,0 +1,1 @@
+// Worked values of links in their bytes: specs/Links.antt.
