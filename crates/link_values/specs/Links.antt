@@ -3,6 +3,7 @@ use mathlib.Core.Bool.{true}
 use mathlib.Core.List.{List, [], _∷_, _++_, map}
 use Prim.Native.Nat.{ℕ, _+_}
 use lib.ListN.{replicate, take, drop}
+use Rattle.blocks.specs.Bytes.{tab}
 use Rattle.answers.specs.Answer.{numberOf}
 use Rattle.baksheesh.specs.Baksheesh.{encrypt}
 use Rattle.links.specs.Record.{formOf}
@@ -50,20 +51,18 @@ sealedWith s = plainRecord (formOf Narrow) (encrypt (replicate 16 0xaa)) (encryp
 
 abbrev pub linkRows : List Row
 linkRows =
-    -- a sender and a receiver keyed as link 7, told 2 and 0
-    (keyedSender (replicate 110 0) 7 2 (replicate 48 0xaa ++ replicate 48 0xbb)
-    is (1 ∷ 0 ∷ 0 ∷ 0 ∷ 7 ∷ (replicate 8 0 ++ (replicate 48 0xaa ++ (replicate 48 0xbb ++ (1 ∷ []))))))
-    ∷ (keyedReceiver (replicate 54 1) 7 0 (replicate 16 0xaa ++ replicate 16 0xbb)
-    is (1 ∷ 0 ∷ 0 ∷ 0 ∷ 7 ∷ (replicate 8 0 ++ (replicate 16 0xaa ++ (replicate 16 0xbb ++ replicate 9 0)))))
+    -- a sender and a receiver keyed as link 0x01020304, told 2 and 0
+    (keyedSender (bytes 110) 0x01020304 2 (tab 96 (λ j. j)) is (1 ∷ 1 ∷ 2 ∷ 3 ∷ 4 ∷ (bytes 8 ++ (tab 96 (λ j. j) ++ (1 ∷ [])))))
+    ∷ (keyedReceiver (replicate 54 1) 0x01020304 0 (tab 32 (λ j. j)) is (1 ∷ 1 ∷ 2 ∷ 3 ∷ 4 ∷ (bytes 8 ++ (tab 32 (λ j. j) ++ bytes 9))))
     -- the bytes of a sender and of a receiver: the width at the end, behind a receiver's word
     ∷ (senderBytes (senderWith true Wide 0x0102030405060708)
-    is (1 ∷ 0 ∷ 0 ∷ 0 ∷ 7 ∷ 1 ∷ 2 ∷ 3 ∷ 4 ∷ 5 ∷ 6 ∷ 7 ∷ 8 ∷ (replicate 96 0 ++ (1 ∷ []))))
+    is (1 ∷ 0 ∷ 0 ∷ 0 ∷ 7 ∷ 1 ∷ 2 ∷ 3 ∷ 4 ∷ 5 ∷ 6 ∷ 7 ∷ 8 ∷ (replicate 48 0xaa ++ (replicate 48 0xbb ++ (1 ∷ [])))))
     ∷ (receiverBytes (receiverWith true Narrow later)
     is (1 ∷ 0 ∷ 0 ∷ 0 ∷ 7 ∷ 0 ∷ 0 ∷ 0 ∷ 0 ∷ 0 ∷ 0 ∷ 0 ∷ 66
     ∷ (replicate 16 0xaa ++ (replicate 16 0xbb ++ (0x80 ∷ 0 ∷ 0 ∷ 0 ∷ 0 ∷ 0 ∷ 0 ∷ 1 ∷ 0 ∷ [])))))
     -- fresh links
-    ∷ (senderBytes freshSender is replicate 110 0)
-    ∷ (receiverBytes freshReceiver is replicate 54 0)
+    ∷ (senderBytes freshSender is bytes 110)
+    ∷ (receiverBytes freshReceiver is bytes 54)
     -- keying: a link or keys of a byte too few or too many, and both
     ∷ (map (λ n. numberOf (senderKeying (bytes n) (bytes 96))) (109 ∷ 110 ∷ 111 ∷ []) is (1 ∷ 0 ∷ 1 ∷ []))
     ∷ (map (λ n. numberOf (senderKeying (bytes 110) (bytes n))) (95 ∷ 96 ∷ 97 ∷ []) is (1 ∷ 0 ∷ 1 ∷ []))

@@ -61,6 +61,9 @@ bodyRows =
     -- what a body in another order, with a skipped word, says: 1 and 2 in the seconds, 3 in the fraction, a minute behind
     ∷ (values (markIn (words (0x4f ∷ 0xff ∷ 0xff ∷ 0xff ∷ 0x30 ∷ 0 ∷ 0 ∷ 3 ∷ 0x50 ∷ 0 ∷ 0 ∷ 0 ∷ 0x20 ∷ 0 ∷ 0 ∷ 2 ∷ 0x10 ∷ 0 ∷ 0 ∷ 1 ∷ [])))
     is (0 ∷ 0 ∷ 0 ∷ 0 ∷ 0x10 ∷ 0 ∷ 0 ∷ 2 ∷ 0 ∷ 0 ∷ 0 ∷ 3 ∷ 1 ∷ 0xff ∷ 0xff ∷ 0xff ∷ 0xff ∷ []))
+    -- what one without an offset says
+    ∷ (values (markIn (words (bodyOf (high ∷ low ∷ fraction ∷ []))))
+    is (0 ∷ 0 ∷ 0 ∷ 0 ∷ 0x69 ∷ 0xa5 ∷ 0x8b ∷ 5 ∷ 4 ∷ 0 ∷ 0 ∷ 0 ∷ 0 ∷ 0 ∷ 0 ∷ 0 ∷ 0 ∷ []))
     -- read: 0, 2, 4, 252, 256 and 260 bytes
     ∷ (read [] is refusedUnder 30)
     ∷ (read (0x10 ∷ 0 ∷ []) is refusedUnder 30)

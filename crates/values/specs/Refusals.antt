@@ -48,7 +48,7 @@ openOn v r o = opened (receiverWith true v early) r o
 
 -- the sender of link 7, keyed or not, of that width, with the last number l
 abbrev pub senderWith : Bool → Width → ℕ → Sender
-senderWith b v l = record { keyed = b; number = 7; last = l; width = v; ke = bytes 48; km = bytes 48 }
+senderWith b v l = record { keyed = b; number = 7; last = l; width = v; ke = replicate 48 0xaa; km = replicate 48 0xbb }
 
 -- a keyed one
 abbrev pub after : Width → ℕ → Sender
