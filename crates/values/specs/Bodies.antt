@@ -16,36 +16,37 @@ bodyOf [] = []
 bodyOf (w ∷ ws) = bigEndian 4 w ++ bodyOf ws
 
 -- words of kinds 1, 2 and 3, one of kind 4 for 60 minutes, one of kind 5
-abbrev pub high : ℕ
-high = 0x10000006
+abbrev pub highWord : ℕ
+highWord = 0x10000006
 
-abbrev pub low : ℕ
-low = 0x29a58b05
+abbrev pub lowWord : ℕ
+lowWord = 0x29a58b05
 
-abbrev pub fraction : ℕ
-fraction = 0x34000000
+abbrev pub fractionWord : ℕ
+fractionWord = 0x34000000
 
-abbrev pub offset : ℕ
-offset = 0x4000003c
+abbrev pub minutesWord : ℕ
+minutesWord = 0x4000003c
 
-abbrev pub other : ℕ
-other = 0x50000000
+abbrev pub skippedWord : ℕ
+skippedWord = 0x50000000
 
 -- what reading a body answers: its mark, its values into 16 bytes, its values into 17
-abbrev pub read : List ℕ → List ℕ
-read b = numberOf (readAnswer b) ∷ numberOf (valuesAnswer b 16) ∷ numberOf (valuesAnswer b 17) ∷ []
+abbrev pub readNumbers : List ℕ → List ℕ
+readNumbers b = numberOf (readAnswer b) ∷ numberOf (valuesAnswer b 16) ∷ numberOf (valuesAnswer b 17) ∷ []
 
--- a body of the kinds 1, 2 and 3 and these words; one with n words of kind 5 besides
+-- of a body of the kinds 1, 2 and 3 and these words
 abbrev pub readWith : List ℕ → List ℕ
-readWith ws = read (bodyOf (high ∷ low ∷ fraction ∷ ws))
+readWith ws = readNumbers (bodyOf (highWord ∷ lowWord ∷ fractionWord ∷ ws))
 
-abbrev pub refusedUnder : ℕ → List ℕ
-refusedUnder n = n ∷ n ∷ n ∷ []
+-- each of the three refuses under n; each accepts, but for the values into 16 bytes
+abbrev pub unreadable : ℕ → List ℕ
+unreadable n = n ∷ n ∷ n ∷ []
 
-abbrev pub accepted : List ℕ
-accepted = 0 ∷ 4 ∷ 0 ∷ []
+abbrev pub readable : List ℕ
+readable = 0 ∷ 4 ∷ 0 ∷ []
 
--- what writing a mark of one second answers: with the fraction f; with an offset; each into so many bytes
+-- what writing into o bytes answers: a mark of s seconds and the fraction f, with no offset; one of a second, with the offset z
 abbrev pub writtenPlain : ℕ → ℕ → ℕ → ℕ
 writtenPlain s f o = numberOf (writeAnswer (markWith s f 0 (pos 841)) o)
 
@@ -62,37 +63,37 @@ bodyRows =
     ∷ (values (markIn (words (0x4f ∷ 0xff ∷ 0xff ∷ 0xff ∷ 0x30 ∷ 0 ∷ 0 ∷ 3 ∷ 0x50 ∷ 0 ∷ 0 ∷ 0 ∷ 0x20 ∷ 0 ∷ 0 ∷ 2 ∷ 0x10 ∷ 0 ∷ 0 ∷ 1 ∷ [])))
     is (0 ∷ 0 ∷ 0 ∷ 0 ∷ 0x10 ∷ 0 ∷ 0 ∷ 2 ∷ 0 ∷ 0 ∷ 0 ∷ 3 ∷ 1 ∷ 0xff ∷ 0xff ∷ 0xff ∷ 0xff ∷ []))
     -- what one without an offset says
-    ∷ (values (markIn (words (bodyOf (high ∷ low ∷ fraction ∷ []))))
+    ∷ (values (markIn (words (bodyOf (highWord ∷ lowWord ∷ fractionWord ∷ []))))
     is (0 ∷ 0 ∷ 0 ∷ 0 ∷ 0x69 ∷ 0xa5 ∷ 0x8b ∷ 5 ∷ 4 ∷ 0 ∷ 0 ∷ 0 ∷ 0 ∷ 0 ∷ 0 ∷ 0 ∷ 0 ∷ []))
     -- read: 0, 2, 4, 252, 256 and 260 bytes
-    ∷ (read [] is refusedUnder 30)
-    ∷ (read (0x10 ∷ 0 ∷ []) is refusedUnder 30)
-    ∷ (read (bodyOf (high ∷ [])) is refusedUnder 32)
-    ∷ (readWith (replicate 60 other) is accepted)
-    ∷ (readWith (replicate 61 other) is accepted)
-    ∷ (readWith (replicate 62 other) is refusedUnder 30)
+    ∷ (readNumbers [] is unreadable 30)
+    ∷ (readNumbers (0x10 ∷ 0 ∷ []) is unreadable 30)
+    ∷ (readNumbers (bodyOf (highWord ∷ [])) is unreadable 32)
+    ∷ (readWith (replicate 60 skippedWord) is readable)
+    ∷ (readWith (replicate 61 skippedWord) is readable)
+    ∷ (readWith (replicate 62 skippedWord) is unreadable 30)
     -- offsets of -721, -720, 840 and 841 minutes
-    ∷ (readWith (0x4ffffd2f ∷ []) is refusedUnder 31)
-    ∷ (readWith (0x4ffffd30 ∷ []) is accepted)
-    ∷ (readWith (0x40000348 ∷ []) is accepted)
-    ∷ (readWith (0x40000349 ∷ []) is refusedUnder 31)
+    ∷ (readWith (0x4ffffd2f ∷ []) is unreadable 31)
+    ∷ (readWith (0x4ffffd30 ∷ []) is readable)
+    ∷ (readWith (0x40000348 ∷ []) is readable)
+    ∷ (readWith (0x40000349 ∷ []) is unreadable 31)
     -- kind 0; kinds 5 and 15, also twice
-    ∷ (readWith (0x00000001 ∷ []) is refusedUnder 31)
-    ∷ (readWith (0x50000000 ∷ 0xf0000000 ∷ 0x50000001 ∷ []) is accepted)
+    ∷ (readWith (0x00000001 ∷ []) is unreadable 31)
+    ∷ (readWith (0x50000000 ∷ 0xf0000000 ∷ 0x50000001 ∷ []) is readable)
     -- kinds 1 to 4 repeated
-    ∷ (readWith (high ∷ []) is refusedUnder 31)
-    ∷ (readWith (low ∷ []) is refusedUnder 31)
-    ∷ (readWith (fraction ∷ []) is refusedUnder 31)
-    ∷ (readWith (offset ∷ offset ∷ []) is refusedUnder 31)
+    ∷ (readWith (highWord ∷ []) is unreadable 31)
+    ∷ (readWith (lowWord ∷ []) is unreadable 31)
+    ∷ (readWith (fractionWord ∷ []) is unreadable 31)
+    ∷ (readWith (minutesWord ∷ minutesWord ∷ []) is unreadable 31)
     -- kinds 1, 2, 3 and 4 missing
-    ∷ (read (bodyOf (low ∷ fraction ∷ offset ∷ [])) is refusedUnder 32)
-    ∷ (read (bodyOf (high ∷ fraction ∷ offset ∷ [])) is refusedUnder 32)
-    ∷ (read (bodyOf (high ∷ low ∷ offset ∷ [])) is refusedUnder 32)
-    ∷ (readWith [] is accepted)
+    ∷ (readNumbers (bodyOf (lowWord ∷ fractionWord ∷ minutesWord ∷ [])) is unreadable 32)
+    ∷ (readNumbers (bodyOf (highWord ∷ fractionWord ∷ minutesWord ∷ [])) is unreadable 32)
+    ∷ (readNumbers (bodyOf (highWord ∷ lowWord ∷ minutesWord ∷ [])) is unreadable 32)
+    ∷ (readWith [] is readable)
     -- two causes at once: a length and kind 0; kind 0, or a repeated kind, and a missing one
-    ∷ (read (bodyOf (replicate 65 0)) is refusedUnder 30)
-    ∷ (read (bodyOf (high ∷ low ∷ 0x00000001 ∷ [])) is refusedUnder 31)
-    ∷ (read (bodyOf (high ∷ low ∷ low ∷ [])) is refusedUnder 31)
+    ∷ (readNumbers (bodyOf (replicate 65 0)) is unreadable 30)
+    ∷ (readNumbers (bodyOf (highWord ∷ lowWord ∷ 0x00000001 ∷ [])) is unreadable 31)
+    ∷ (readNumbers (bodyOf (highWord ∷ lowWord ∷ lowWord ∷ [])) is unreadable 31)
     -- written: seconds of 56 and of 57 bits, a fraction of 28 and of 29; into 11 and 12 bytes, and into none
     ∷ ((writtenPlain 0xffffffffffffff 0 12 ∷ writtenPlain 0x100000000000000 0 12 ∷ []) is (0 ∷ 31 ∷ []))
     ∷ ((writtenPlain 1 0xfffffff 12 ∷ writtenPlain 1 0x10000000 12 ∷ []) is (0 ∷ 31 ∷ []))

@@ -22,9 +22,9 @@ ofShares a b c = bigEndian 16 a ++ (bigEndian 16 b ++ bigEndian 16 c)
 abbrev pub counted : Reader
 counted = at (tab 128 (λ j. j))
 
--- a link with 4 for its last number, and a message of m bytes
-abbrev pub sender : Sender
-sender = record {
+-- a link with 4 for its last number, and a message of m bytes for it
+abbrev pub sampleSender : Sender
+sampleSender = record {
   keyed = true;
   number = 0x01020304;
   last = 4;
@@ -33,22 +33,22 @@ sender = record {
   km = tab 48 (λ j. 255 - 2 * j);
 }
 
-abbrev pub message : ℕ → List ℕ
-message m = tab m (λ j. 192 + j)
+abbrev pub sampleMessage : ℕ → List ℕ
+sampleMessage m = tab m (λ j. 192 + j)
 
 -- the key shares of call k of sealing a block on it, and lane i of the first round of the first call
 abbrev pub keysOf : ℕ → List ℕ
-keysOf k = flat (keyShares encryption (sealingCalls sender (message 16)) counted k)
+keysOf k = flat (keyShares encryption (sealingCalls sampleSender (sampleMessage 16)) counted k)
 
 abbrev pub firstLane : Index → List ℕ
-firstLane i = laneOf encryption (sealingCalls sender (message 16)) counted 1 1 i
+firstLane i = laneOf encryption (sealingCalls sampleSender (sampleMessage 16)) counted 1 1 i
 
--- what call k of sealing m bytes on it takes in, where call j put out the shares of `out j`
-abbrev pub out : ℕ → Shares
-out k = three (tab 16 (λ j. 16 * k + j)) (tab 16 (λ j. 128 + 7 * k + 2 * j)) (tab 16 (λ j. 240 - 11 * k - 3 * j))
+-- what call k of sealing m bytes on it takes in, where call j put out the shares of `sampleOutput j`
+abbrev pub sampleOutput : ℕ → Shares
+sampleOutput k = three (tab 16 (λ j. 16 * k + j)) (tab 16 (λ j. 128 + 7 * k + 2 * j)) (tab 16 (λ j. 240 - 11 * k - 3 * j))
 
 abbrev pub takenIn : ℕ → ℕ → List ℕ
-takenIn m k = flat (sealingCalls sender (message m) .input k out)
+takenIn m k = flat (sealingCalls sampleSender (sampleMessage m) .input k sampleOutput)
 
 abbrev pub maskRows : List Row
 maskRows =

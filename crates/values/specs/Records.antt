@@ -19,6 +19,10 @@ use Rattle.values.specs.Row.{Row, _is_}
 abbrev pub sizes : Width → List ℕ
 sizes w = recordSize (formOf w) 0 ∷ recordSize (formOf w) 256 ∷ greatest (formOf w) ∷ []
 
+-- the bytes 0, 1, 2 and so on, n of them
+abbrev pub rising : ℕ → List ℕ
+rising n = tab n (λ j. j)
+
 -- the fields of a link: 1 if it is keyed, its number, the last number or the window, the shortest record, its keys
 abbrev pub senderFields : Sender → List ℕ
 senderFields x = cond (x .keyed) 1 0 ∷ x .number ∷ x .last ∷ recordSize (senderForm x) 0 ∷ (x .ke ++ x .km)
@@ -40,10 +44,10 @@ recordRows =
     ∷ ((sizes (told 0) ++ (sizes (told 1) ++ sizes (told 4294967295)))
     is (24 ∷ 280 ∷ 4294967295 ∷ 28 ∷ 284 ∷ 18446744073709551615 ∷ 28 ∷ 284 ∷ 18446744073709551615 ∷ []))
     -- a sender keyed as link 7, told 2 and 0; a receiver likewise
-    ∷ (senderFields (senderOf 7 (told 2) (tab 96 (λ j. j))) is (1 ∷ 7 ∷ 0 ∷ 28 ∷ tab 96 (λ j. j)))
-    ∷ (senderFields (senderOf 7 (told 0) (tab 96 (λ j. j))) is (1 ∷ 7 ∷ 0 ∷ 24 ∷ tab 96 (λ j. j)))
-    ∷ (receiverFields (receiverOf 7 (told 2) (tab 32 (λ j. j))) is (1 ∷ 7 ∷ 0 ∷ 0 ∷ 28 ∷ tab 32 (λ j. j)))
-    ∷ (receiverFields (receiverOf 7 (told 0) (tab 32 (λ j. j))) is (1 ∷ 7 ∷ 0 ∷ 0 ∷ 24 ∷ tab 32 (λ j. j)))
+    ∷ (senderFields (senderOf 7 (told 2) (rising 96)) is (1 ∷ 7 ∷ 0 ∷ 28 ∷ rising 96))
+    ∷ (senderFields (senderOf 7 (told 0) (rising 96)) is (1 ∷ 7 ∷ 0 ∷ 24 ∷ rising 96))
+    ∷ (receiverFields (receiverOf 7 (told 2) (rising 32)) is (1 ∷ 7 ∷ 0 ∷ 0 ∷ 28 ∷ rising 32))
+    ∷ (receiverFields (receiverOf 7 (told 0) (rising 32)) is (1 ∷ 7 ∷ 0 ∷ 0 ∷ 24 ∷ rising 32))
     -- 17 bytes sealed under two keys into a wide record
     ∷ (plainRecord (formOf Wide) (encrypt (bigEndian 16 0x000102030405060708090a0b0c0d0e0f))
     (encrypt (bigEndian 16 0x101112131415161718191a1b1c1d1e1f)) 0x01020304 0x05060708090a0b0c (tab 17 (λ j. 192 + j))

@@ -34,12 +34,12 @@ abbrev pub receiverWith : Bool → Width → Window → Receiver
 receiverWith b v w = record { keyed = b; number = 7; window = w; width = v; ke = replicate 16 0xaa; km = replicate 16 0xbb }
 
 -- what it answers to a record r with room for o bytes, where CMAC uses a function that changes no block
-abbrev pub opened : Receiver → List ℕ → ℕ → ℕ
-opened x r o = numberOf (openAnswer (receiverForm x) (λ k b. b) x r o)
+abbrev pub openNumber : Receiver → List ℕ → ℕ → ℕ
+openNumber x r o = numberOf (openAnswer (receiverForm x) (λ k b. b) x r o)
 
 -- to one of the width u with an empty message, the number s and a tag of zeros
 abbrev pub answered : Width → Window → Width → ℕ → ℕ
-answered v w u s = opened (receiverWith true v w) (recordOf (formOf u) 7 s [] zeros) 0
+answered v w u s = openNumber (receiverWith true v w) (recordOf (formOf u) 7 s [] zeros) 0
 
 abbrev pub windowRows : List Row
 windowRows =
