@@ -80,6 +80,14 @@ none-both (suc k) ((n when b) ∷ cs) h l = (h .0, none-both k cs (h .1) l)
 
 -- ---- causes behind others
 
+pub none-append : (cs ds : List Cause) → NoneOf cs → NoneOf ds → NoneOf (cs ++ ds)
+none-append [] ds h l = l
+none-append ((n when b) ∷ cs) ds h l = (h .0, none-append cs ds (h .1) l)
+
+pub none-parts : (cs ds : List Cause) → NoneOf (cs ++ ds) → NoneOf cs × NoneOf ds
+none-parts [] ds h = (tt, h)
+none-parts ((n when b) ∷ cs) ds h = let l = none-parts cs ds (h .1) in ((h .0, l .0), l .1)
+
 pub refused-before : (n : ℕ) (cs ds : List Cause) (vs : List ℕ) (a : Answer) → first cs (done vs) ≡ refused n
     → first (cs ++ ds) a ≡ refused n
 refused-before n [] ds vs a e = absurd (done-refused n vs e)

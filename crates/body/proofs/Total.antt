@@ -1,8 +1,9 @@
 -- Reading and writing: each refusal number has exactly its cause, a refusal changes nothing, and what is accepted changes nothing past
 -- its result. Assumes nothing.
-use Rattle.prelude.proofs.{_≡_, refl, sym, _↔_, List, [], ℕ, length, ltb-false}
-use Rattle.answers.specs.Answer.{refused, Accepts, FirstOf, Kept}
-use Rattle.answers.proofs.{First.refused-exactly, First.if-refused, First.accepts-none, First.done-none, Output.output-kept}
+use Rattle.prelude.proofs.{_≡_, refl, sym, _↔_, List, [], _∷_, ℕ, ltb, length, ltb-false}
+use Rattle.answers.specs.Answer.{refused, Accepts, _when_, FirstOf, Kept}
+use Rattle.answers.proofs.{First.refused-exactly, First.if-refused, First.accepts-none, First.done-none, First.none-parts}
+use Rattle.answers.proofs.Output.{output-kept}
 use Rattle.body.specs.Entry.{readCauses, readAnswer, valuesCauses, valuesAnswer, valuesOutput, writeCauses, writeAnswer, writeOutput}
 use Rattle.body.specs.{Words.words, Mark.markIn, Mark.written, Mark.values, declared.Mark.Mark}
 use Rattle.body.proofs.Writing.{values-length}
@@ -32,7 +33,7 @@ unfolding valuesAnswer
 values-kept b o a =
     let none = accepts-none (valuesCauses b (length o)) [] tt a in
     output-kept (done-none (valuesCauses b (length o)) _ none) (values (markIn (words b))) o 17 (values-length (markIn (words b)))
-    (ltb-false (length o) 17 (none .1 .1 .1 .0))
+    (ltb-false (length o) 17 (none-parts (readCauses b) ((4 when ltb (length o) 17) ∷ []) none .1 .0))
 
 pub written-kept : (m : Mark) (o : List ℕ) → Accepts (writeAnswer m (length o)) → Kept (length (written m)) o (writeOutput m o)
 unfolding writeAnswer

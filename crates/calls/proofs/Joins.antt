@@ -1,4 +1,5 @@
--- The joined shares of a sealing's calls are plain sealing's blocks, and its record is the plain record. Assumes nothing.
+-- The joined shares of a job's calls are plain blocks: those of CTR, and of CMAC of its ciphertext. Sealing's record is the plain record.
+-- Assumes nothing.
 use Rattle.prelude.proofs.{_≡_, refl, sym, ap, ap₂, _∙_, Bool, true, false, cond, List, _∷_, _++_, append-nil, ℕ, zero, suc, _+_, _-_, _%_}
 use Rattle.prelude.proofs.{_≤_, _<_, decLt, ℕ-discrete, arith, eqb, length, take, replicate, length-append, length-take, length-replicate}
 use Rattle.prelude.proofs.{take-all, eq-eqb, ne-eqb}
@@ -16,20 +17,184 @@ use Rattle.plain.specs.Plain.{crypted, authenticated, macOf, plainRecord}
 use Rattle.masking.specs.Shares.{Shares, Blocks, join, add, each, only, sharesIn, Reader}
 use Rattle.masking.specs.{Stages.plainAfter, Call.encryption, Call.plainEncryption}
 use Rattle.masking.proofs.Joins.{Linear, join-add, join-only, join-zeros, join-map}
-use Rattle.masking.proofs.{Shape.Reads, Encryption.encryption-blocks, Encryption.encryption-joins, Encryption.plain-encrypts}
-use Rattle.runs.specs.Run.{Run, outputOf}
-use Rattle.runs.proofs.Run.{output-join}
-use Rattle.calls.specs.Numbered.{Call, ctr, sub, mac, callNumber, callOf, callCount, ofKey, tapeNeed}
-use Rattle.calls.specs.Sealed.{cut, completed, subkey, macBlock, chain, inputFrom, sealingCalls, ctrOut, tagShares, ciphertext}
-use Rattle.calls.specs.Sealed.{sealedRecord}
-use Rattle.calls.specs.Demand.{Formed, joinedKE, joinedKM}
-use Rattle.calls.specs.{Plain.plainInput, Used.PlainCallsUsed}
-use Rattle.calls.proofs.Numbered.{call-ctr, call-sub, call-mac, call-last, number-low, number-call}
-use Rattle.calls.proofs.Shape.{ke-block, km-block, cut-block, completed-whole}
-use Rattle.calls.proofs.Shape.{completed-short, completed-block, sealing-placed, sealing-blocks}
-use Rattle.calls.proofs.Used.{text-length, plain-calls-used}
+use Rattle.masking.proofs.{Shape.Reads, Shape.join-block, Encryption.encryption-blocks, Encryption.encryption-joins}
+use Rattle.masking.proofs.Encryption.{plain-encrypts}
+use Rattle.runs.specs.Run.{outputOf}
+use Rattle.runs.proofs.Run.{InputsJoin, output-join}
+use Rattle.calls.specs.Numbered.{Call, ctr, sub, mac, IsCall, Fills, mac-behind, ofKey, tapeNeed}
+use Rattle.calls.specs.Job.{Job, completed, count, placeOf, callIn, subkey, macBlock, chain, inputFrom, jobCalls, ctrOut, codeShares}
+use Rattle.calls.specs.Job.{crypt}
+use Rattle.calls.specs.Sealed.{cut, sealing, sealedRecord}
+use Rattle.calls.specs.Demand.{Formed, joinedKE, joinedKM, plainText}
+use Rattle.calls.specs.Plain.{plainInput, plainOutput}
+use Rattle.calls.proofs.Numbered.{call-back, number-low, number-high, number-back}
+use Rattle.calls.proofs.Shape.{JobBlocks, job-placed, job-blocks, sealing-blocks, cut-block, completed-whole, completed-short}
+use Rattle.calls.proofs.Shape.{completed-block}
+use Rattle.calls.proofs.Used.{chain-made, code-made, text-length}
 
--- ---- blocks of the message
+-- ---- the subkeys
+
+-- doubling each of three shares doubles their XOR
+pub doubled-join : (s : Shares) → Blocks s → join (each doubled s) ≡ doubled (join s)
+doubled-join = join-map (record { f-block = λ a p. doubled-block a; f-⊕ = λ a b p q. doubled-⊕ p q })
+
+cond-⊕ : (t : Bool) (a b c d : List ℕ) → cond t a b ⊕ cond t c d ≡ cond t (a ⊕ c) (b ⊕ d)
+cond-⊕ true a b c d = refl
+cond-⊕ false a b c d = refl
+
+-- ---- a job and its ciphertext
+
+module _ (J : Job) (text : List ℕ) where
+  abbrev n : ℕ
+  n = count J
+
+  abbrev KE : List ℕ
+  KE = join (sharesIn (J .ke))
+
+  abbrev KM : List ℕ
+  KM = join (sharesIn (J .km))
+
+  abbrev input : Call → List ℕ
+  input = plainInput KE KM (J .number) (J .sequence) text
+
+  abbrev output : Call → List ℕ
+  output = plainOutput KE KM (J .number) (J .sequence) text
+
+  abbrev whole : List ℕ
+  whole = authenticated (J .number) (J .sequence) text
+
+  -- of the calls before number k, f has outputs that join to plain ones
+  abbrev pub JoinsBefore : ℕ → (ℕ → Shares) → Type 0
+  JoinsBefore k f = (c : Call) → IsCall n c → placeOf J c < k → join (f (placeOf J c)) ≡ output c
+
+  -- the calls fill the numbers, the ciphertext has the size that is said, and its blocks join to what it is
+  pub record JobJoins : Type 0 where
+    pub fills : Fills (J .order) n
+    pub sized : length text ≡ J .size
+    pub block : (k : ℕ) (f : ℕ → Shares) → ((j : ℕ) → Blocks (f j)) → JoinsBefore k f
+        → (j : ℕ) → j < n → placeOf J (mac (suc j)) ≤ k → join (J .block j f) ≡ completed (piece j text)
+
+module _ {J : Job} (B : JobBlocks J) {text : List ℕ} (T : JobJoins J text) where
+  pub given-join : (c : Call) → join (sharesIn (ofKey (J .ke) (J .km) c)) ≡ ofKey (KE J text) (KM J text) c
+  given-join (ctr j) = refl
+  given-join sub = refl
+  given-join (mac j) = refl
+
+  -- ---- what is authenticated
+
+  abbrev front : List ℕ
+  front = counterBlock (J .number) (J .sequence) 0
+
+  front-size : length front ≡ 16
+  front-size = counter-block _ _ 0 .size
+
+  whole-length : length (whole J text) ≡ 16 + J .size
+  whole-length = length-append front text ∙ ap₂ _+_ front-size (T .sized)
+
+  piece-size : (j : ℕ) → j < count J → length (piece j (whole J text)) ≡ 16
+  piece-size j l = piece-whole j (whole J text) (omega (arith, whole-length))
+
+  -- the last block is complete where the ciphertext ends with one, or is empty
+  last-complete : eqb (J .size % 16) 0 ≡ eqb (length (piece (count J) (whole J text))) 16
+  last-complete = elim (ℕ-discrete (J .size % 16) 0) [
+    | yes e ↦ eq-eqb (J .size % 16) 0 e ∙ sym (eq-eqb (length last) 16 (omega (arith, piece-length (count J) (whole J text), whole-length)))
+    | no e ↦
+        ne-eqb (J .size % 16) 0 e
+        ∙ sym (ne-eqb (length last) 16 (λ f. e (omega (arith, piece-length (count J) (whole J text), whole-length))))
+  ]
+    where
+      last : List ℕ
+      last = piece (count J) (whole J text)
+
+  -- ---- the inputs of CMAC's calls, of outputs f that join to plain outputs before call k
+
+  module _ (f : ℕ → Shares) (fb : (j : ℕ) → Blocks (f j)) (k : ℕ) (fj : JoinsBefore J text k f) where
+    macBlock-join : (j : ℕ) → j ≤ count J → placeOf J (mac j) ≤ k → join (macBlock J f j) ≡ completed (piece j (whole J text))
+    unfolding macBlock
+    macBlock-join zero l h =
+        join-only (counter-block _ _ 0) ∙ sym (completed-whole front front-size) ∙ ap completed (sym (piece-front front text front-size))
+    macBlock-join (suc j) l h = T .block k f fb fj j l h ∙ ap completed (sym (piece-behind j front text front-size))
+
+    subkey-join : placeOf J sub < k → join (subkey J f)
+        ≡ cond (eqb (length (piece (count J) (whole J text))) 16) (subkey₁ (encrypt (KM J text))) (subkey₂ (encrypt (KM J text)))
+    unfolding subkey subkey₁ subkey₂ plainInput
+    subkey-join h =
+        once (eqb (J .size % 16) 0)
+        ∙ ap (λ (t : Bool). cond t (subkey₁ (encrypt (KM J text))) (subkey₂ (encrypt (KM J text)))) last-complete
+      where
+        made : Shares
+        made = f (placeOf J sub)
+
+        first-join : join (each doubled made) ≡ subkey₁ (encrypt (KM J text))
+        first-join = doubled-join made (fb _) ∙ ap doubled (fj sub tt h)
+
+        once : (t : Bool) → join (each (λ l. cond t (doubled l) (doubled (doubled l))) made)
+            ≡ cond t (subkey₁ (encrypt (KM J text))) (subkey₂ (encrypt (KM J text)))
+        once true = first-join
+        once false = doubled-join (each doubled made) (λ i. doubled-block (made i)) ∙ ap doubled first-join
+
+    chain-join : (j : ℕ) → j ≤ count J → placeOf J (mac j) ≤ k → join (chain J f j) ≡ Cmac.chain (encrypt (KM J text)) zeros (whole J text) j
+    unfolding chain Cmac.chain
+    chain-join zero l h = join-zeros
+    chain-join (suc j) l h =
+        fj (mac j) (omega arith) (omega arith) ∙ sym (chain-made (KE J text) (KM J text) (J .number) (J .sequence) text j
+        (omega (arith, T .sized)))
+
+    last-join : placeOf J (mac (count J)) ≤ k
+        → join (add (subkey J f) (macBlock J f (count J))) ≡ lastBlock (encrypt (KM J text)) (piece (count J) (whole J text))
+    unfolding lastBlock
+    last-join h =
+        join-add (subkey J f) (macBlock J f (count J)) ∙ ap₂ _⊕_ (subkey-join (omega arith)) (macBlock-join (count J) (omega arith) h)
+        ∙ cond-⊕ (eqb (length (piece (count J) (whole J text))) 16) _ _ _ _
+
+    inputs-join : (c : Call) → IsCall (count J) c → placeOf J c ≡ k → join (inputFrom J c f) ≡ input J text c
+    unfolding inputFrom plainInput
+    inputs-join (ctr j) i e = join-only (counter-block _ _ j)
+    inputs-join sub i e = join-zeros
+    inputs-join (mac j) i e = rw (T .sized) (join-add (chain J f j) _ ∙ ap₂ _⊕_ (chain-join j i (omega arith)) (elim (ℕ-discrete j (count J)) [
+      | yes d ↦ rw (eq-eqb j (count J) d, d) (last-join (omega arith))
+      | no d ↦ rw (ne-eqb j (count J) d)
+          (macBlock-join j i (omega arith) ∙ completed-whole (piece j (whole J text)) (piece-size j (omega arith)))
+    ]))
+
+  -- ---- so the run joins
+
+  -- the plain cipher's output of a call
+  made-plainly : (c : Call) → plainAfter plainEncryption (join (sharesIn (ofKey (J .ke) (J .km) c))) (input J text c) rounds ≡ output J text c
+  made-plainly c = plain-encrypts _ _ ∙ ap (λ (z : List ℕ). encrypt z (input J text c)) (given-join c)
+
+  pub job-joins : InputsJoin encryption (jobCalls J) plainEncryption (λ k. input J text (callIn J k))
+  job-joins k l h f fb fj =
+      let back = number-back (J .order) (count J) (T .fills) k l h in
+      inputs-join f fb k
+      (λ c i q. fj (placeOf J c) (number-low (J .order) (count J) c) q ∙ made-plainly (callIn J (placeOf J c))
+      ∙ ap (λ (d : Call). output J text d) (call-back (J .order) (count J) (T .fills) c i))
+      (callIn J k) (back .0) (back .1)
+
+  -- ---- with a tape that is long enough
+
+  module _ (M : Reader) (h : Reads M (tapeNeed (J .size))) where
+    outputs-join : (c : Call) → IsCall (count J) c → join (outputOf encryption (jobCalls J) M (placeOf J c)) ≡ output J text c
+    outputs-join c i =
+        let high = number-high (J .order) (count J) (T .fills) c i in
+        output-join (job-placed J) encryption-blocks (job-blocks J B) M encryption-joins (λ k. input J text (callIn J k)) job-joins
+        (placeOf J c) (number-low (J .order) (count J) c) high (λ p u. h p (omega arith))
+        ∙ made-plainly (callIn J (placeOf J c)) ∙ ap (λ (d : Call). output J text d) (call-back (J .order) (count J) (T .fills) c i)
+
+    -- CTR of any text of that size, and the code
+    pub crypt-join : (m : List ℕ) → length m ≡ J .size → crypt J M m ≡ crypted (encrypt (KE J text)) (J .number) (J .sequence) m
+    unfolding crypt plainInput
+    crypt-join m e =
+        ctr-same (λ b. b) (encrypt (KE J text)) (λ j. join (ctrOut J M j)) (counterBlock (J .number) (J .sequence)) m
+        (λ j l. outputs-join (ctr j) (omega arith))
+
+    pub code-join : join (codeShares J M) ≡ macOf (encrypt (KM J text)) (J .number) (J .sequence) text
+    code-join =
+        outputs-join (mac (count J)) (omega arith)
+        ∙ sym (code-made (KE J text) (KM J text) (J .number) (J .sequence) text
+        ∙ ap (λ (l : ℕ). output J text (mac (blockCount l))) (T .sized))
+
+-- ---- blocks of a message
 
 cut-whole : (w : ℕ) (b : List ℕ) → w ≡ 16 → Block b → cut w b ≡ b
 cut-whole w b e p =
@@ -66,172 +231,38 @@ cut-completed p b h q = elim (decLt (length p) 16) [
     size : length (p ⊕ take (length p) b) ≡ length p
     size = ⊕-length p (take (length p) b) ∙ simp length-take (omega arith)
 
--- ---- the subkeys
-
--- doubling each of three shares doubles their XOR
-pub doubled-join : (s : Shares) → Blocks s → join (each doubled s) ≡ doubled (join s)
-doubled-join = join-map (record { f-block = λ a p. doubled-block a; f-⊕ = λ a b p q. doubled-⊕ p q })
-
-cond-⊕ : (t : Bool) (a b c d : List ℕ) → cond t a b ⊕ cond t c d ≡ cond t (a ⊕ c) (b ⊕ d)
-cond-⊕ true a b c d = refl
-cond-⊕ false a b c d = refl
-
 -- ---- a sealing of m on x
 
 module _ (x : Sender) (m : List ℕ) (F : Formed x) (b : Bytes m) where
-  abbrev n : ℕ
-  n = blockCount (length m)
+  blocks : JobBlocks (sealing x m)
+  blocks = sealing-blocks x m F b
 
-  abbrev KE : List ℕ
-  KE = joinedKE x
+  -- KE is a block
+  ke-block : Block (joinedKE x)
+  ke-block = join-block (blocks .ke)
 
-  abbrev KM : List ℕ
-  KM = joinedKM x
+  counters : (j : ℕ) → Block (encrypt (joinedKE x) (counterBlock (x .number) (x .last + 1) j))
+  counters j = encrypt-block (joinedKE x) _ ke-block (counter-block _ _ j)
 
-  abbrev counter : ℕ → List ℕ
-  counter = counterBlock (x .number) (x .last + 1)
-
-  abbrev text : List ℕ
-  text = crypted (encrypt KE) (x .number) (x .last + 1) m
-
-  abbrev whole : List ℕ
-  whole = authenticated (x .number) (x .last + 1) text
-
-  abbrev input : Call → List ℕ
-  input = plainInput KE KM (x .number) (x .last + 1) m
-
-  plainly : PlainCallsUsed KE KM (x .number) (x .last + 1) m
-  plainly = plain-calls-used KE KM (ke-block F) (km-block F) (x .number) (x .last + 1) m
-
-  pub given-join : (c : Call) → join (sharesIn (ofKey (x .ke) (x .km) c)) ≡ ofKey KE KM c
-  given-join (ctr j) = refl
-  given-join sub = refl
-  given-join (mac j) = refl
-
-  -- ---- what is authenticated
-
-  counter-size : length (counter 0) ≡ 16
-  counter-size = counter-block _ _ 0 .size
-
-  whole-length : length whole ≡ 16 + length m
-  whole-length = length-append (counter 0) text ∙ ap₂ _+_ counter-size (text-length (ke-block F) (x .number) (x .last + 1) m)
-
-  piece-size : (j : ℕ) → j < n → length (piece j whole) ≡ 16
-  piece-size j l = piece-whole j whole (omega (arith, whole-length))
-
-  -- the last block is complete where the message ends with one, or is empty
-  last-complete : eqb (length m % 16) 0 ≡ eqb (length (piece n whole)) 16
-  last-complete = elim (ℕ-discrete (length m % 16) 0) [
-    | yes e ↦ eq-eqb (length m % 16) 0 e ∙ sym (eq-eqb (length (piece n whole)) 16 (omega (arith, piece-length n whole, whole-length)))
-    | no e ↦
-        ne-eqb (length m % 16) 0 e
-        ∙ sym (ne-eqb (length (piece n whole)) 16 (λ f. e (omega (arith, piece-length n whole, whole-length))))
-  ]
-
-  -- ---- the inputs of CMAC's calls, of outputs f that join to plain outputs up to the chain's block j
-
-  module _ (f : ℕ → Shares) (fb : (j : ℕ) → Blocks (f j)) (k : ℕ)
-      (fj : (c : Call) → callOf n (callNumber n c) ≡ c → callNumber n c < k → join (f (callNumber n c))
-      ≡ encrypt (ofKey KE KM c) (input c)) where
-    macBlock-join : (j : ℕ) → j ≤ n → j < k → join (macBlock x m f j) ≡ completed (piece j whole)
-    unfolding macBlock plainInput
-    macBlock-join zero l h =
-        join-only (counter-block _ _ 0) ∙ sym (completed-whole (counter 0) counter-size)
-        ∙ ap completed (sym (piece-front (counter 0) text counter-size))
-    macBlock-join (suc j) l h =
+  pub sealing-joins : JobJoins (sealing x m) (plainText x m)
+  unfolding plainInput
+  sealing-joins = record {
+    fills = mac-behind refl refl;
+    sized = text-length ke-block (x .number) (x .last + 1) m;
+    block = λ k f fb fj j l h.
         let p : List ℕ = piece j m in
-        let s : Shares = f (callNumber n (ctr j)) in
+        let s : Shares = f (placeOf (sealing x m) (ctr j)) in
         join-add (each (cut (length p)) s) (only (completed p))
-        ∙ ap₂ _⊕_ (join-map (cut-linear (length p) (piece-le j m)) s (fb _)
-        ∙ ap (cut (length p)) (fj (ctr j) (call-ctr n j (omega arith)) (omega arith)))
+        ∙ ap₂ _⊕_ (join-map (cut-linear (length p) (piece-le j m)) s (fb _) ∙ ap (cut (length p)) (fj (ctr j) l (omega arith)))
         (join-only (completed-block p (piece-bytes j m b) (piece-le j m)))
-        ∙ cut-completed p (encrypt KE (counter j)) (piece-le j m) (encrypt-block KE _ (ke-block F) (counter-block _ _ j))
-        ∙ ap completed (sym (piece-behind j (counter 0) text counter-size
-        ∙ piece-ctr (encrypt KE) counter (λ i. encrypt-block KE _ (ke-block F) (counter-block _ _ i)) m j (omega arith)))
+        ∙ cut-completed p (encrypt (joinedKE x) (counterBlock (x .number) (x .last + 1) j)) (piece-le j m) (counters j)
+        ∙ ap completed (sym (piece-ctr (encrypt (joinedKE x)) (counterBlock (x .number) (x .last + 1)) counters m j l));
+  }
 
-    subkey-join : n + 1 < k → join (subkey x m f) ≡ cond (eqb (length (piece n whole)) 16) (subkey₁ (encrypt KM)) (subkey₂ (encrypt KM))
-    unfolding subkey subkey₁ subkey₂ plainInput
-    subkey-join h =
-        once (eqb (length m % 16) 0) ∙ ap (λ (t : Bool). cond t (subkey₁ (encrypt KM)) (subkey₂ (encrypt KM))) last-complete
-      where
-        made : Shares
-        made = f (callNumber n sub)
-
-        first-join : join (each doubled made) ≡ subkey₁ (encrypt KM)
-        first-join = doubled-join made (fb _) ∙ ap doubled (fj sub (call-sub n) h)
-
-        once : (t : Bool) → join (each (λ l. cond t (doubled l) (doubled (doubled l))) made)
-            ≡ cond t (subkey₁ (encrypt KM)) (subkey₂ (encrypt KM))
-        once true = first-join
-        once false = doubled-join (each doubled made) (λ i. doubled-block (made i)) ∙ ap doubled first-join
-
-    chain-join : (j : ℕ) → j ≤ n → n + 2 + j ≤ k → join (chain x m f j) ≡ Cmac.chain (encrypt KM) zeros whole j
-    unfolding chain Cmac.chain
-    chain-join zero l h = join-zeros
-    chain-join (suc j) l h = fj (mac j) (call-mac n j) (omega arith) ∙ sym (plainly .chained j (omega arith))
-
-    last-join : n + 1 < k → join (add (subkey x m f) (macBlock x m f n)) ≡ lastBlock (encrypt KM) (piece n whole)
-    unfolding lastBlock
-    last-join h =
-        join-add (subkey x m f) (macBlock x m f n) ∙ ap₂ _⊕_ (subkey-join h) (macBlock-join n (omega arith) (omega arith))
-        ∙ cond-⊕ (eqb (length (piece n whole)) 16) _ _ _ _
-
-    inputs-join : (c : Call) → callNumber n c ≡ k → k ≤ callCount n → join (inputFrom x m c f) ≡ input c
-    unfolding inputFrom plainInput
-    inputs-join (ctr j) e l = join-only (counter-block _ _ j)
-    inputs-join sub e l = join-zeros
-    inputs-join (mac j) e l = join-add (chain x m f j) _ ∙ ap₂ _⊕_ (chain-join j (omega arith) (omega arith)) (elim (ℕ-discrete j n) [
-      | yes d ↦ rw (eq-eqb j n d, d) (last-join (omega arith))
-      | no d ↦ rw (ne-eqb j n d)
-          (macBlock-join j (omega arith) (omega arith) ∙ completed-whole (piece j whole) (piece-size j (omega arith)))
-    ])
-
-  -- ---- so the run joins
-
-  -- the plain cipher's output of call k
-  made-plainly : (k : ℕ) → let c = callOf n k in
-      plainAfter plainEncryption (join (sharesIn (ofKey (x .ke) (x .km) c))) (input c) rounds ≡ encrypt (ofKey KE KM c) (input c)
-  made-plainly k =
-      let c : Call = callOf n k in
-      plain-encrypts _ _ ∙ ap (λ (z : List ℕ). encrypt z (input c)) (given-join c)
-
-  pub sealing-joins : (k : ℕ) → 1 ≤ k → k ≤ callCount n → (f : ℕ → Shares) → ((j : ℕ) → Blocks (f j))
-      → ((j : ℕ) → 1 ≤ j → j < k
-      → join (f j) ≡ plainAfter plainEncryption (join (sharesIn (ofKey (x .ke) (x .km) (callOf n j)))) (input (callOf n j)) rounds)
-      → join (inputFrom x m (callOf n k) f) ≡ input (callOf n k)
-  sealing-joins k l h f fb fj =
-      inputs-join f fb k
-      (λ c e q. fj (callNumber n c) (number-low n c) q ∙ made-plainly (callNumber n c)
-      ∙ ap (λ (d : Call). encrypt (ofKey KE KM d) (input d)) e)
-      (callOf n k) (number-call n k l) h
-
-  -- ---- with a tape that is long enough
-
-  module _ (M : Reader) (h : Reads M (tapeNeed (length m))) where
-    abbrev R : Run
-    R = sealingCalls x m
-
-    outputs-join : (k : ℕ) → 1 ≤ k → k ≤ callCount n → let c = callOf n k in join (outputOf encryption R M k)
-        ≡ encrypt (ofKey KE KM c) (input c)
-    outputs-join k l q =
-        output-join (sealing-placed x m) encryption-blocks (sealing-blocks x m F b) M encryption-joins
-        (λ k. input (callOf n k)) sealing-joins
-        k l q (λ p u. h p (omega arith))
-        ∙ made-plainly k
-
-    ciphertext-join : ciphertext x m M ≡ text
-    unfolding ciphertext plainInput
-    ciphertext-join =
-        ctr-same (λ b. b) (encrypt KE) (λ j. join (ctrOut x m M j)) counter m
-        (λ j l. outputs-join (1 + j) (omega arith) (omega arith) ∙ ap (λ (c : Call). encrypt (ofKey KE KM c) (input c)) (call-ctr n j l))
-
-    code-join : join (tagShares x m M) ≡ macOf (encrypt KM) (x .number) (x .last + 1) text
-    code-join =
-        outputs-join (callCount n) (omega arith) (omega arith)
-        ∙ ap (λ (c : Call). encrypt (ofKey KE KM c) (input c)) (call-last n) ∙ sym (plainly .code)
-
-    pub record-join : sealedRecord x m M ≡ plainRecord (senderForm x) (encrypt KE) (encrypt KM) (x .number) (x .last + 1) m
-    unfolding sealedRecord plainRecord
-    record-join =
-        let f = senderForm x in
-        ap₂ (λ (c t : List ℕ). recordOf f (x .number) (x .last + 1) c (take (f .tag) t)) ciphertext-join code-join
+  pub record-join : (M : Reader) → Reads M (tapeNeed (length m))
+      → sealedRecord x m M ≡ plainRecord (senderForm x) (encrypt (joinedKE x)) (encrypt (joinedKM x)) (x .number) (x .last + 1) m
+  unfolding sealedRecord plainRecord
+  record-join M h =
+      let f = senderForm x in
+      ap₂ (λ (c t : List ℕ). recordOf f (x .number) (x .last + 1) c (take (f .tag) t)) (crypt-join blocks sealing-joins M h m refl)
+      (code-join blocks sealing-joins M h)

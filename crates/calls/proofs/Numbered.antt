@@ -1,42 +1,78 @@
--- The numbers of a sealing's calls, and where their masks stand on the tape. Assumes nothing.
-use Rattle.prelude.proofs.{_≡_, refl, ap, ℕ, _+_, _*_, _≤_, _<_, decLe, arith, le-leb, lt-leb, eq-eqb, ne-eqb}
-use Rattle.blocks.specs.Bytes.{blockCount}
-use Rattle.masking.specs.{Shares.pairSize, Call.pairCount}
-use Rattle.calls.specs.Numbered.{Call, ctr, sub, mac, callNumber, callOf, callCount, keyAt, tapeNeed}
-use Rattle.calls.specs.Demand.{masksOf}
+-- The numbers of a job's calls, in either order, and where their masks stand on the tape. Assumes nothing.
+use Rattle.prelude.proofs.{_≡_, refl, ap, inl, inr, Bool, false, _&&_, ℕ, _+_, _-_, _*_, _≤_, _<_, decLe, arith, leb, le-leb, lt-leb, eq-eqb}
+use Rattle.prelude.proofs.{ne-eqb}
+use Rattle.masking.specs.{Shares.pairSize, Call.pairCount, OneTape.Outside}
+use Rattle.runs.specs.Reported.{pairAt}
+use Rattle.calls.specs.Numbered.{Call, ctr, sub, mac, Order, callNumber, callOf, IsCall, Fills, mac-behind, ctr-behind, callCount}
+use Rattle.calls.specs.Numbered.{keyAt, tapeNeed}
+use Rattle.calls.specs.Job.{Job, jobCalls}
 
--- 1 to n are CTR's, n + 1 makes the subkeys, n + 2 to 2n + 2 are CMAC's
+-- k is none of CMAC's numbers, of which b stand before
+abbrev OfCtr : ℕ → ℕ → ℕ → Type 0
+OfCtr b n k = Outside (b + 1) (n + 2) k
 
-pub call-ctr : (n j : ℕ) → j < n → callOf n (1 + j) ≡ ctr j
-unfolding callOf
-call-ctr n j h = rw (le-leb (1 + j) n (omega arith)) (ap ctr (omega arith))
+not-mac : (b n k : ℕ) → OfCtr b n k → (leb (b + 1) k && leb k (b + (2 + n))) ≡ false
+not-mac b n k (inl h) = ap (λ (t : Bool). t && leb k (b + (2 + n))) (lt-leb (b + 1) k h)
+not-mac b n k (inr h) = rw (le-leb (b + 1) k (omega arith)) (lt-leb k (b + (2 + n)) (omega arith))
 
-pub call-sub : (n : ℕ) → callOf n (n + 1) ≡ sub
-unfolding callOf
-call-sub n = rw (lt-leb (n + 1) n (omega arith), eq-eqb (n + 1) (n + 1) refl)
+module _ (o : Order) (n : ℕ) where
+  abbrev b : ℕ
+  b = o .beforeMac n
 
-pub call-mac : (n j : ℕ) → callOf n (n + 2 + j) ≡ mac j
-unfolding callOf
-call-mac n j = rw (lt-leb (n + 2 + j) n (omega arith), ne-eqb (n + 2 + j) (n + 1) (λ e. omega arith)) (ap mac (omega arith))
+  abbrev c : ℕ
+  c = o .beforeCtr n
 
--- the last is CMAC's of the last block
-pub call-last : (n : ℕ) → callOf n (callCount n) ≡ mac n
-call-last n = let e : callCount n ≡ n + 2 + n = omega arith in rw e (call-mac n n)
+  pub number-low : (d : Call) → 1 ≤ callNumber o n d
+  number-low (ctr j) = omega arith
+  number-low sub = omega arith
+  number-low (mac j) = omega arith
 
-pub number-low : (n : ℕ) (c : Call) → 1 ≤ callNumber n c
-number-low n (ctr j) = omega arith
-number-low n sub = omega arith
-number-low n (mac j) = omega arith
+  pub number-high : Fills o n → (d : Call) → IsCall n d → callNumber o n d ≤ callCount n
+  number-high (mac-behind e f) (ctr j) h = omega arith
+  number-high (mac-behind e f) sub h = omega arith
+  number-high (mac-behind e f) (mac j) h = omega arith
+  number-high (ctr-behind e f) (ctr j) h = omega arith
+  number-high (ctr-behind e f) sub h = omega arith
+  number-high (ctr-behind e f) (mac j) h = omega arith
 
-pub number-call : (n k : ℕ) → 1 ≤ k → callNumber n (callOf n k) ≡ k
-unfolding callOf
-number-call n k h = elim (decLe k n) [
-  | yes a ↦ rw (le-leb k n a) (omega arith)
-  | no a ↦ rw (lt-leb k n (omega arith)) (elim (decLe k (n + 1)) [
-    | yes b ↦ rw (eq-eqb k (n + 1) (omega arith)) (omega arith)
-    | no b ↦ rw (ne-eqb k (n + 1) (λ e. omega arith)) (omega arith)
-  ])
-]
+  -- ---- a number's call
+
+  apart : Fills o n → (j : ℕ) → j < n → OfCtr b n (c + (1 + j))
+  apart (mac-behind e f) j h = inl (omega arith)
+  apart (ctr-behind e f) j h = inr (omega arith)
+
+  pub call-back : Fills o n → (d : Call) → IsCall n d → callOf o n (callNumber o n d) ≡ d
+  unfolding callOf
+  call-back F (ctr j) h = rw (not-mac b n (c + (1 + j)) (apart F j h)) (ap ctr (omega arith))
+  call-back F sub h = rw (le-leb (b + 1) (b + 1) (omega arith), le-leb (b + 1) (b + (2 + n)) (omega arith), eq-eqb (b + 1) (b + 1) refl)
+  call-back F (mac j) h =
+      rw (
+        le-leb (b + 1) (b + (2 + j)) (omega arith),
+        le-leb (b + (2 + j)) (b + (2 + n)) (omega arith),
+        ne-eqb (b + (2 + j)) (b + 1) (λ e. omega arith),
+      ) (ap mac (omega arith))
+
+  -- ---- and its number
+
+  ctr-back : Fills o n → (k : ℕ) → OfCtr b n k → 1 ≤ k → k ≤ callCount n
+      → (k - (c + 1) < n) × (c + (1 + (k - (c + 1))) ≡ k)
+  ctr-back (mac-behind e f) k (inl g) l h = (omega arith, omega arith)
+  ctr-back (mac-behind e f) k (inr g) l h = absurd (omega arith)
+  ctr-back (ctr-behind e f) k (inl g) l h = absurd (omega arith)
+  ctr-back (ctr-behind e f) k (inr g) l h = (omega arith, omega arith)
+
+  pub number-back : Fills o n → (k : ℕ) → 1 ≤ k → k ≤ callCount n → IsCall n (callOf o n k) × (callNumber o n (callOf o n k) ≡ k)
+  unfolding callOf
+  number-back F k l h = elim (decLe (b + 1) k) [
+    | yes p ↦ elim (decLe k (b + (2 + n))) [
+      | yes q ↦ rw (le-leb (b + 1) k p, le-leb k (b + (2 + n)) q) (elim (decLe k (b + 1)) [
+        | yes r ↦ rw (eq-eqb k (b + 1) (omega arith)) (tt, omega arith)
+        | no r ↦ rw (ne-eqb k (b + 1) (λ e. omega arith)) (omega arith, omega arith)
+      ])
+      | no q ↦ let z : OfCtr b n k = inr (omega arith) in rw (not-mac b n k z) (ctr-back F k z l h)
+    ]
+    | no p ↦ let z : OfCtr b n k = inl (omega arith) in rw (not-mac b n k z) (ctr-back F k z l h)
+  ]
 
 -- ---- each pair of masks has bytes of its own: KE's, then KM's, then call by call and round by round, up to the need
 
@@ -48,14 +84,15 @@ key-low (mac j) = omega arith
 pub keys-apart : (j : ℕ) → keyAt (ctr j) + pairSize ≤ keyAt sub
 keys-apart j = omega arith
 
-pub keys-before : (c : Call) (k r : ℕ) → keyAt c + pairSize ≤ masksOf k r
-keys-before c k r = omega (arith, key-low c)
+module _ (J : Job) where
+  pub keys-before : (c : Call) (k r : ℕ) → keyAt c + pairSize ≤ pairAt (jobCalls J) k r
+  keys-before c k r = omega (arith, key-low c)
 
-pub rounds-apart : (k r q : ℕ) → 1 ≤ r → r < q → masksOf k r + pairSize ≤ masksOf k q
-rounds-apart k r q h l = omega arith
+  pub rounds-apart : (k r q : ℕ) → 1 ≤ r → r < q → pairAt (jobCalls J) k r + pairSize ≤ pairAt (jobCalls J) k q
+  rounds-apart k r q h l = omega arith
 
-pub calls-apart : (k r l q : ℕ) → 1 ≤ k → k < l → 1 ≤ r → r ≤ pairCount → masksOf k r + pairSize ≤ masksOf l q
-calls-apart k r l q h d r₁ rₙ = omega arith
+  pub calls-apart : (k r l q : ℕ) → 1 ≤ k → k < l → 1 ≤ r → r ≤ pairCount → pairAt (jobCalls J) k r + pairSize ≤ pairAt (jobCalls J) l q
+  calls-apart k r l q h d r₁ rₙ = omega arith
 
-pub masks-end : (m : ℕ) → masksOf (callCount (blockCount m)) pairCount + pairSize ≡ tapeNeed m
-masks-end m = omega arith
+  pub masks-end : pairAt (jobCalls J) (jobCalls J .count) pairCount + pairSize ≡ tapeNeed (J .size)
+  masks-end = omega arith

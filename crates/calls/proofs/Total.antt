@@ -1,21 +1,20 @@
 -- When sealing and the report are accepted, what they return then, and that each refusal has exactly its cause and changes nothing.
 -- Assumes nothing.
-use Rattle.prelude.proofs.{_≡_, refl, sym, _↔_, true, List, [], _∷_, ℕ, _+_, _^_, _≤_, _<_, arith, length, replicate}
+use Rattle.prelude.proofs.{_≡_, refl, sym, _↔_, true, List, [], ℕ, _+_, _^_, _≤_, _<_, arith, length, replicate}
 use Rattle.prelude.proofs.{length-replicate}
 use Rattle.blocks.specs.Bytes.{Bytes, put, blockCount}
 use Rattle.blocks.proofs.Parts.{part-length, part-bytes}
-use Rattle.answers.specs.Answer.{done, refused, FirstOf}
+use Rattle.answers.specs.Answer.{refused, FirstOf}
 use Rattle.answers.proofs.First.{if-refused, refused-exactly}
 use Rattle.links.specs.Record.{numberSize, greatest, usable, longest, recordSize}
 use Rattle.links.specs.{Links.senderKeys, Links.senderOf, Links.senderForm, declared.Sender.Sender, declared.Width.Width}
 use Rattle.links.proofs.Widths.{usable-exactly}
-use Rattle.masking.specs.{Shares.at, Call.encryption, Call.pairCount}
+use Rattle.masking.specs.{Shares.indexOf, Shares.at, Call.encryption, Call.pairCount}
 use Rattle.calls.specs.Entry.{sealCauses, sealAnswer, sealLink, advanced, sealOutput, reportCauses, reportAnswer, reportOutput}
-use Rattle.calls.specs.Entry.{indexOf}
 use Rattle.calls.specs.Demand.{Formed, Accepted, AcceptedSealing}
 use Rattle.calls.specs.{Numbered.callCount, Numbered.tapeNeed, Sealed.sealingCalls, Sealed.sealedRecord}
 use Rattle.runs.specs.{Run.laneOf, Lanes.TellsNumber}
-use Rattle.calls.proofs.Accepted.{accepted, values, sealable, next-fits, room, report-tells}
+use Rattle.calls.proofs.Accepted.{accepted, sealable, next-fits, room, report-tells}
 
 -- ---- accepted
 
@@ -28,11 +27,6 @@ accepted-exactly x m t o = (
   (λ A. let S = sealable x m t o A in (S .keyed, S .left, S .small, S .long, room x m t o A)),
   (λ h. accepted x m t o (record { keyed = h .0; left = h .1; small = h .2; long = h .3 }) (h .4)),
 )
-
--- an accepted sealing returns the length of the record and the tape bytes read
-pub accepted-values : (x : Sender) (m t : List ℕ) (o : ℕ) → Accepted x m t o
-    → sealAnswer x m t o ≡ done (recordSize (senderForm x) (length m) ∷ tapeNeed (length m) ∷ [])
-accepted-values = values
 
 -- ---- links hold what they can
 

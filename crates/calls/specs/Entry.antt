@@ -2,7 +2,7 @@
 -- Assumes nothing.
 use mathlib.Core.Bool.{not}
 use mathlib.Core.List.{List, [], _∷_}
-use Prim.Native.Nat.{ℕ, zero, suc, _+_}
+use Prim.Native.Nat.{ℕ, _+_}
 use lib.Dec.{eqb, ltb}
 use lib.ListN.{length, replicate}
 use Rattle.answers.specs.Answer.{Answer, done, Cause, _when_, first, ifDone, output}
@@ -10,7 +10,7 @@ use Rattle.blocks.specs.Bytes.{blockCount}
 use Rattle.links.specs.Record.{greatest, usable, longest, recordSize}
 use Rattle.links.specs.Links.{senderForm}
 use Rattle.links.specs.declared.Sender.{Sender}
-use Rattle.masking.specs.Shares.{Index, i₀, i₁, i₂, flat, at}
+use Rattle.masking.specs.Shares.{indexOf, flat, at}
 use Rattle.masking.specs.Call.{encryption, pairCount}
 use Rattle.runs.specs.Run.{laneOf}
 use Rattle.runs.specs.Lanes.{laneCauses}
@@ -28,8 +28,12 @@ inputCauses x m t cs =
     ∷ (3 when ltb (length t) (tapeNeed (length m)))
     ∷ cs
 
+-- that of sealing alone: the room for the record
+abbrev pub roomCauses : Sender → List ℕ → ℕ → List Cause
+roomCauses x m o = (4 when ltb o (recordSize (senderForm x) (length m))) ∷ []
+
 abbrev pub sealCauses : Sender → List ℕ → List ℕ → ℕ → List Cause
-sealCauses x m t o = inputCauses x m t ((4 when ltb o (recordSize (senderForm x) (length m))) ∷ [])
+sealCauses x m t o = inputCauses x m t (roomCauses x m o)
 
 -- the length of the record, and the tape bytes read
 unfoldable pub sealAnswer : Sender → List ℕ → List ℕ → ℕ → Answer
@@ -55,11 +59,6 @@ reportCauses x m t k r i o = inputCauses x m t (laneCauses (callCount (blockCoun
 
 unfoldable pub reportAnswer : Sender → List ℕ → List ℕ → ℕ → ℕ → ℕ → ℕ → Answer
 reportAnswer x m t k r i o = first (reportCauses x m t k r i o) (done [])
-
-abbrev pub indexOf : ℕ → Index
-indexOf zero = i₀
-indexOf (suc zero) = i₁
-indexOf (suc (suc n)) = i₂
 
 abbrev pub reportOutput : Sender → List ℕ → List ℕ → ℕ → ℕ → ℕ → List ℕ → List ℕ
 reportOutput x m t k r i o =

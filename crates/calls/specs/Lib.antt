@@ -1,4 +1,5 @@
 pub mod Numbered
+pub mod Job
 pub mod Sealed
 pub mod Plain
 pub mod Entry

@@ -1,7 +1,7 @@
--- The numbered calls of a sealing of n blocks: 1 to n are CTR's, n + 1 makes the subkeys, n + 2 to 2n + 2 are CMAC's.
--- Assumes nothing.
-use mathlib.Core.Bool.{cond}
-use Prim.Native.Nat.{ℕ, _+_, _-_, _*_}
+-- The numbered calls of a job on shares: of n blocks, n calls are CTR's, one makes the subkeys, n + 1 are CMAC's. Assumes nothing.
+use mathlib.Core.Path.{_≡_}
+use mathlib.Core.Bool.{cond, _&&_}
+use Prim.Native.Nat.{ℕ, _+_, _-_, _*_, _≤_, _<_}
 use lib.Dec.{eqb, leb}
 use Rattle.blocks.specs.Bytes.{blockCount}
 use Rattle.masking.specs.Shares.{pairSize}
@@ -13,14 +13,37 @@ pub data Call : Type 0 where
   sub : Call
   mac : ℕ → Call
 
-abbrev pub callNumber : ℕ → Call → ℕ
-callNumber n (ctr j) = 1 + j
-callNumber n sub = n + 1
-callNumber n (mac j) = n + 2 + j
+-- the order of the calls for n blocks: how many calls stand before CTR's, and how many before the subkeys', which CMAC's follow
+pub record Order : Type 0 where
+  pub beforeCtr : ℕ → ℕ
+  pub beforeMac : ℕ → ℕ
 
--- the call with a number
-unfoldable pub callOf : ℕ → ℕ → Call
-callOf n k = cond (leb k n) (ctr (k - 1)) (cond (eqb k (n + 1)) sub (mac (k - (n + 2))))
+-- CTR's calls come first, and CMAC's behind them
+abbrev pub ctrFirst : Order
+ctrFirst = record { beforeCtr = λ n. 0; beforeMac = λ n. n }
+
+module _ (o : Order) (n : ℕ) where
+  abbrev pub callNumber : Call → ℕ
+  callNumber (ctr j) = o .beforeCtr n + (1 + j)
+  callNumber sub = o .beforeMac n + 1
+  callNumber (mac j) = o .beforeMac n + (2 + j)
+
+  -- the call with a number
+  unfoldable pub callOf : ℕ → Call
+  callOf k =
+      let b = o .beforeMac n in
+      cond (leb (b + 1) k && leb k (b + (2 + n))) (cond (eqb k (b + 1)) sub (mac (k - (b + 2)))) (ctr (k - (o .beforeCtr n + 1)))
+
+-- c is one of the calls for n blocks
+abbrev pub IsCall : ℕ → Call → Type 0
+IsCall n (ctr j) = j < n
+IsCall n sub = Unit {0}
+IsCall n (mac j) = j ≤ n
+
+-- the calls for n blocks fill the numbers from 1 on: CMAC's follow CTR's, or CTR's follow CMAC's
+pub data Fills (o : Order) (n : ℕ) : Type 0 where
+  mac-behind : o .beforeCtr n ≡ 0 → o .beforeMac n ≡ n → Fills o n
+  ctr-behind : o .beforeMac n ≡ 0 → o .beforeCtr n ≡ n + 2 → Fills o n
 
 abbrev pub callCount : ℕ → ℕ
 callCount n = 2 * n + 2
@@ -40,6 +63,6 @@ keyAt = ofKey 0 pairSize
 abbrev pub callAt : ℕ → ℕ
 callAt k = 2 * pairSize + callSize * (k - 1)
 
--- the bytes that sealing a message of m bytes reads
+-- the bytes that a job for m bytes reads
 abbrev pub tapeNeed : ℕ → ℕ
 tapeNeed m = 2 * pairSize + callSize * callCount (blockCount m)

@@ -16,9 +16,11 @@ use Rattle.masking.specs.Shares.{Shares, join, Reader}
 use Rattle.masking.specs.Stages.{call}
 use Rattle.masking.specs.Call.{encryption}
 use Rattle.runs.specs.Run.{keyShares, inputOf, outputOf}
-use Rattle.calls.specs.Numbered.{ctr, sub, mac, callNumber, callOf, callCount, callAt}
-use Rattle.calls.specs.Sealed.{sealingCalls, inputFrom, sealedRecord}
+use Rattle.calls.specs.Numbered.{ctr, sub, mac, ctrFirst, callNumber, callCount, callAt}
+use Rattle.calls.specs.Job.{inputFrom}
+use Rattle.calls.specs.Sealed.{sealing, sealingCalls, sealedRecord}
 use Rattle.calls.specs.Plain.{plainInput}
+use Rattle.calls.specs.Demand.{sealingCall}
 
 -- f has the outputs of the calls before call k
 abbrev pub Before : Sender → List ℕ → Reader → ℕ → (ℕ → Shares) → Type 0
@@ -30,17 +32,18 @@ pub record CallsUsed (x : Sender) (m : List ℕ) (M : Reader) : Type 0 where
   pub outputs : (k : ℕ) → let R = sealingCalls x m in
       outputOf encryption R M k ≡ call encryption (keyShares encryption R M k) (inputOf encryption R M k) M (callAt k)
   pub inputs : (k : ℕ) → (f : ℕ → Shares) × Before x m M k f
-      × (inputOf encryption (sealingCalls x m) M k ≡ inputFrom x m (callOf (blockCount (length m)) k) f)
+      × (inputOf encryption (sealingCalls x m) M k ≡ inputFrom (sealing x m) (sealingCall m k) f)
   pub recorded : let n = blockCount (length m) in let out = outputOf encryption (sealingCalls x m) M in
       sealedRecord x m M ≡ recordOf (senderForm x) (x .number) (x .last + 1)
-      (Ctr.ctr (λ b. b) (λ j. join (out (callNumber n (ctr j)))) m) (take (senderForm x .tag) (join (out (callCount n))))
+      (Ctr.ctr (λ b. b) (λ j. join (out (callNumber ctrFirst n (ctr j)))) m) (take (senderForm x .tag) (join (out (callCount n))))
 
 -- of plain sealing of m under the keys ke and km, with the link number n and the sequence number s: its ciphertext blocks, subkeys, chain
 -- and code are made of the calls' outputs
 pub record PlainCallsUsed (ke km : List ℕ) (n s : ℕ) (m : List ℕ) : Type 0 where
-  pub outputs : (j : ℕ) → j < blockCount (length m)
-      → piece j (crypted (encrypt ke) n s m) ≡ piece j m ⊕ encrypt ke (plainInput ke km n s m (ctr j))
-  pub first-subkey : subkey₁ (encrypt km) ≡ doubled (encrypt km (plainInput ke km n s m sub))
-  pub chained : (j : ℕ) → j < blockCount (length m)
-      → Cmac.chain (encrypt km) zeros (authenticated n s (crypted (encrypt ke) n s m)) (suc j) ≡ encrypt km (plainInput ke km n s m (mac j))
-  pub code : macOf (encrypt km) n s (crypted (encrypt ke) n s m) ≡ encrypt km (plainInput ke km n s m (mac (blockCount (length m))))
+  pub outputs : let text = crypted (encrypt ke) n s m in (j : ℕ) → j < blockCount (length m)
+      → piece j text ≡ piece j m ⊕ encrypt ke (plainInput ke km n s text (ctr j))
+  pub first-subkey : let text = crypted (encrypt ke) n s m in subkey₁ (encrypt km) ≡ doubled (encrypt km (plainInput ke km n s text sub))
+  pub chained : let text = crypted (encrypt ke) n s m in (j : ℕ) → j < blockCount (length m)
+      → Cmac.chain (encrypt km) zeros (authenticated n s text) (suc j) ≡ encrypt km (plainInput ke km n s text (mac j))
+  pub code : let text = crypted (encrypt ke) n s m in
+      macOf (encrypt km) n s text ≡ encrypt km (plainInput ke km n s text (mac (blockCount (length m))))

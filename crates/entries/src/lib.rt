@@ -7,10 +7,10 @@ use engines::BlockAnswer;
 use engines::Cipher;
 use links::Sender;
 use links::SenderKeying;
-use opening::Opening;
-use opening::Receiver;
-use opening::ReceiverKeying;
-use plain::PlainAnswer;
+use plain_sealing::PlainAnswer;
+use receiver::Opening;
+use receiver::Receiver;
+use receiver::ReceiverKeying;
 use reporting::ReportAnswer;
 use sealing::Sealing;
 
@@ -31,11 +31,11 @@ pub fn key_sender(link: Sender, number: u32, wide: u32, keys: &[u8]) -> SenderKe
 }
 
 pub fn fresh_receiver() -> Receiver {
-    opening::Receiver::fresh()
+    receiver::Receiver::fresh()
 }
 
 pub fn key_receiver(link: Receiver, number: u32, wide: u32, keys: &[u8]) -> ReceiverKeying {
-    opening::Receiver::key(link, number, wide, keys)
+    receiver::Receiver::key(link, number, wide, keys)
 }
 
 // ---- sealing, report and opening
@@ -48,7 +48,7 @@ pub fn seal_plain(
     message: &[u8],
     out: &mut [u8],
 ) -> PlainAnswer {
-    plain::seal(keys, number, wide, sequence, message, out)
+    plain_sealing::seal(keys, number, wide, sequence, message, out)
 }
 
 pub fn seal(link: Sender, message: &[u8], tape: &[u8], out: &mut [u8]) -> Sealing {
@@ -73,7 +73,7 @@ pub fn report(
 }
 
 pub fn open(link: Receiver, sealed: &[u8], out: &mut [u8]) -> Opening {
-    opening::Receiver::open(link, sealed, out)
+    receiver::Receiver::open(link, sealed, out)
 }
 
 // ---- bodies

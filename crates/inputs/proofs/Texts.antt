@@ -4,10 +4,10 @@ use Rattle.prelude.proofs.{replicate, take-take, eq-eqb, ne-eqb}
 use Rattle.blocks.specs.Bytes.{part, put}
 use Rattle.blocks.proofs.Parts.{part-length, part-part, put-zeros}
 use Rattle.modes.specs.Cmac.{doubled}
-use Rattle.links.specs.{Record.counterBlock, declared.Sender.Sender}
+use Rattle.links.specs.Record.{counterBlock}
 use Rattle.masking.specs.Shares.{Shares, three, each, only, sharesIn}
 use Rattle.masking.proofs.Shape.{shares-same}
-use Rattle.calls.specs.Sealed.{cut, lastKey, textBlock}
+use Rattle.calls.specs.{Job.lastKey, Sealed.cut, Sealed.textBlock}
 use Rattle.inputs.specs.Inputs.{blockShares}
 
 -- the first n bytes of a block, written over zeros
@@ -45,9 +45,9 @@ cut-shares o j n p q r =
     cell p q h e = ap (cut n) (sym (part-part (48 * j) 48 p 16 q o h e))
 
 -- block j of what is authenticated: the first, and another
-module _ (x : Sender) (m o : List ℕ) (j : ℕ) (s : Shares) where
-  pub mac-first : j ≡ 0 → s ≡ only (counterBlock (x .number) (x .last + 1) 0) → s ≡ blockShares x m o j
-  mac-first e h = h ∙ ap (blockShares x m o) (sym e)
+module _ (n q : ℕ) (m o : List ℕ) (j : ℕ) (s : Shares) where
+  pub mac-first : j ≡ 0 → s ≡ only (counterBlock n q 0) → s ≡ blockShares n q m o j
+  mac-first e h = h ∙ ap (blockShares n q m o) (sym e)
 
-  pub mac-next : (j ≡ 0 → ⊥) → s ≡ textBlock m (j - 1) (sharesIn (part (48 * (j - 1)) 48 o)) → s ≡ blockShares x m o j
-  mac-next e h = let d : suc (j - 1) ≡ j = omega arith in h ∙ ap (blockShares x m o) d
+  pub mac-next : (j ≡ 0 → ⊥) → s ≡ textBlock m (j - 1) (sharesIn (part (48 * (j - 1)) 48 o)) → s ≡ blockShares n q m o j
+  mac-next e h = let d : suc (j - 1) ≡ j = omega arith in h ∙ ap (blockShares n q m o) d

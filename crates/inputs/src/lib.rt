@@ -1,5 +1,4 @@
-// What CMAC's calls of a sealing take in, on shares: the blocks of what is authenticated, and the last one's subkey.
-use links::Sender;
+// What CMAC's calls take in, on shares: the blocks of what is authenticated, and the last one's subkey.
 use packing::pack;
 use shares::Triple;
 use shares::add_shares;
@@ -7,14 +6,15 @@ use shares::only;
 use shares::pack_shares;
 use shares::unpack_shares;
 ghost use mathlib.Core.Path.{_≡_};
-ghost use Prim.Native.Nat.{_+_, _*_, _^_, _≤_, _<_};
+ghost use Prim.Native.Nat.{_+_, _*_, _≤_, _<_};
 ghost use lib.ListN.{length};
 ghost use Rattle.blocks.specs.Bytes.{part, blockCount, piece};
 ghost use Rattle.modes.specs.Cmac.{doubled};
-ghost use Rattle.links.specs.Record.{sequenceMost, longest};
+ghost use Rattle.links.specs.Record.{longest};
 ghost use Rattle.masking.specs.Shares.{each, sharesIn};
 ghost use Rattle.shares.specs.Packed.{sharesOf};
-ghost use Rattle.calls.specs.Sealed.{cut, completed, lastKey, textBlock};
+ghost use Rattle.calls.specs.Job.{completed, lastKey};
+ghost use Rattle.calls.specs.Sealed.{cut, textBlock};
 ghost use Rattle.inputs.specs.Inputs.{outsSize, blockShares};
 
 // ---- the subkey
@@ -82,13 +82,13 @@ fn text_block(message: &[u8], outs: &[u8], j: usize) -> Triple
 }
 
 // Block j of what is authenticated: counter block 0, then the ciphertext.
-pub fn mac_block(link: Sender, message: &[u8], outs: &[u8], j: usize) -> Triple
-    requires { ⌜ (link .last + 1 < 256 ^ sequenceMost) × (j ≤ blockCount (length (now message))) ⌝ }
+pub fn mac_block(number: u32, sequence: u64, message: &[u8], outs: &[u8], j: usize) -> Triple
+    requires { ⌜ j ≤ blockCount (length (now message)) ⌝ }
     requires { ⌜ (length (now message) ≤ longest) × (length (now outs) ≡ outsSize) ⌝ }
-    ensures { λ r. ⌜ sharesOf r ≡ blockShares link (now (message .entry)) (now (outs .entry)) j ⌝ }
+    ensures { λ r. ⌜ sharesOf r ≡ blockShares number sequence (now (message .entry)) (now (outs .entry)) j ⌝ }
 {
     if j == 0 {
-        return only(pack(links::counter_block(link.number, link.last + 1, 0)));
+        return only(pack(links::counter_block(number, sequence, 0)));
     }
     text_block(message, outs, j - 1)
 }

@@ -1,11 +1,11 @@
--- What keying a link in its bytes returns and leaves. Assumes nothing.
-use Rattle.prelude.proofs.{_≡_, refl, sym, ap, _∙_, _↔_, Bool, true, false, not, List, [], _∷_, _++_, append-assoc, ℕ, _+_, arith}
-use Rattle.prelude.proofs.{length, take, drop, length-drop, take-append-drop, take-all, eqb, eqb-true, not-false}
-use Rattle.blocks.specs.Bytes.{part, bigEndian}
-use Rattle.answers.specs.Answer.{Answer, done, refused, _when_, first, numberOf, ifDone, FirstOf, NoneOf}
-use Rattle.answers.proofs.First.{Applies, numberAt, refused-at, refused-exactly, done-none, if-done, if-refused}
-use Rattle.links.specs.Record.{numberSize}
-use Rattle.layout.specs.{Layout.lastSize, Layout.linkBytes, Keying.keyingCauses, Keying.keyingAnswer}
+-- Keying a link in its bytes refuses each cause under its number, and leaves what keying by value leaves, of any kind of link.
+-- Assumes nothing.
+use Rattle.prelude.proofs.{_≡_, sym, ap, _∙_, _↔_, List, [], ℕ, eqb, length, eqb-true, not-false}
+use Rattle.answers.specs.Answer.{Answer, done, refused, numberOf, Accepts, ifDone, FirstOf}
+use Rattle.answers.proofs.First.{refused-at, refused-exactly, done-none, accepts-none, accepts-done, not-accepts, if-done, if-refused}
+use Rattle.answers.proofs.First.{eq-not, ne-not}
+use Rattle.links.specs.Links.{keyCauses, keyAnswer}
+use Rattle.layout.specs.Keying.{keyingCauses, keyingAnswer}
 
 module _ (size n : ℕ) (link keys : List ℕ) where
   abbrev answer : Answer
@@ -16,33 +16,40 @@ module _ (size n : ℕ) (link keys : List ℕ) where
   unfolding keyingAnswer
   keying-refused-exactly r = refused-exactly r (keyingCauses size n link keys) []
 
-  -- the number r is returned, and the link's bytes are l at the end: x where the keying is done
+  -- where it is done, the key material has its length
+  pub keying-done : Accepts answer → (answer ≡ done []) × (length keys ≡ n)
+  unfolding keyingAnswer
+  keying-done a =
+      let none = accepts-none (keyingCauses size n link keys) [] tt a in
+      (done-none (keyingCauses size n link keys) (done []) none, eqb-true (length keys) n (not-false (eqb (length keys) n) (none .1 .0)))
+
+  -- the number r is returned, and the link's bytes are l at the end: b where the keying is done
   abbrev Keys : List ℕ → ℕ → List ℕ → Type 0
-  Keys x r l = (r ≡ numberOf answer) × (l ≡ ifDone answer x link)
+  Keys b r l = (r ≡ numberOf answer) × (l ≡ ifDone answer b link)
 
-  pub not-keyed : (k : ℕ) → NoneOf (take k (keyingCauses size n link keys)) → Applies k (keyingCauses size n link keys)
-      → (x : List ℕ) → Keys x (numberAt k (keyingCauses size n link keys)) link
+  -- bytes of another length are left as they were
+  pub other-length : (length link ≡ size → ⊥) → (b : List ℕ) → Keys b 1 link
   unfolding keyingAnswer
-  not-keyed k h a x = let e = refused-at k (keyingCauses size n link keys) (done []) h a in (sym (ap numberOf e), if-refused e x link)
+  other-length h b =
+      let e = refused-at 0 (keyingCauses size n link keys) (done []) tt (ne-not (length link) size h) in
+      (sym (ap numberOf e), if-refused e b link)
 
-  pub is-keyed : NoneOf (keyingCauses size n link keys) → {x l : List ℕ} → l ≡ x → Keys x 0 l
-  unfolding keyingAnswer
-  is-keyed h e = let d = done-none (keyingCauses size n link keys) (done []) h in (sym (ap numberOf d), e ∙ if-done d _ link)
+  -- bytes of the link's length; keying by value, whose keyed link is x, left the link y, and r is its answer's number
+  module _ (s : length link ≡ size) {A : Type 0} (bytes : A → List ℕ) (x z : A) {y : A} {a : Answer}
+      (e : (a ≡ keyAnswer n keys) × (y ≡ ifDone (keyAnswer n keys) x z)) {r : ℕ} (er : r ≡ numberOf a) where
+    -- keying in bytes answers what keying by value does
+    by-value : answer ≡ keyAnswer n keys
+    unfolding keyingAnswer keyAnswer
+    by-value = simp (eq-not (length link) size s)
 
--- ---- the keys that a keyed link stores are two keys, one behind the other
+    told : r ≡ numberOf answer
+    told = er ∙ ap numberOf (e .0 ∙ sym by-value)
 
-where-done : (a b : Bool) (x y l : List ℕ) → (b ≡ false → x ≡ y)
-    → let answer = first ((1 when a) ∷ (1 when b) ∷ []) (done []) in ifDone answer x l ≡ ifDone answer y l
-where-done true b x y l e = refl
-where-done false true x y l e = refl
-where-done false false x y l e = e refl
+    pub keyed : r ≡ 0 → {l : List ℕ} → l ≡ bytes y → Keys (bytes x) r l
+    unfolding keyAnswer
+    keyed h el =
+        let d : keyAnswer n keys ≡ done [] = accepts-done (keyCauses n keys) [] tt (sym (er ∙ ap numberOf (e .0)) ∙ h) in
+        (told, el ∙ ap bytes (e .1 ∙ sym (if-done d x z)) ∙ if-done (by-value ∙ d) (bytes x) link)
 
-pub two-keys : (size p q x : ℕ) (link keys tail : List ℕ) → let answer = keyingAnswer size (p + q) link keys in
-    ifDone answer (linkBytes true x 0 keys [] tail) link ≡ ifDone answer (linkBytes true x 0 (part 0 p keys) (part p q keys) tail) link
-unfolding keyingAnswer
-two-keys size p q x link keys tail = where-done (not (eqb (length link) size)) (not (eqb (length keys) (p + q))) _ _ link λ e.
-    let n : length keys ≡ p + q = eqb-true (length keys) (p + q) (not-false (eqb (length keys) (p + q)) e) in
-    let second : part p q keys ≡ drop p keys = take-all q (drop p keys) (simp length-drop (omega arith)) in
-    ap (λ (z : List ℕ). 1 ∷ (bigEndian numberSize x ++ (bigEndian lastSize 0 ++ z)))
-    (ap (λ (z : List ℕ). z ++ tail) (sym (take-append-drop p keys)) ∙ append-assoc (take p keys) (drop p keys) tail
-    ∙ ap (λ (z : List ℕ). take p keys ++ (z ++ tail)) (sym second))
+    pub not-keyed : (r ≡ 0 → ⊥) → Keys (bytes x) r link
+    not-keyed h = (told, if-refused (not-accepts answer (λ d. h (told ∙ d))) (bytes x) link)

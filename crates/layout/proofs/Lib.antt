@@ -1,3 +1,4 @@
 pub mod LinkBytes
 pub mod Keying
 pub mod SaidKeyed
+pub mod Kind

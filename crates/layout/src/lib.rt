@@ -1,14 +1,10 @@
-// Links as bytes: a flag, link number, last number, keys, and a tail. Keying them.
+// Links as bytes: a flag, link number, last number, keys, and a tail.
 use links::Width;
 ghost use mathlib.Core.Path.{_≡_};
-ghost use mathlib.Core.Bool.{true};
-ghost use mathlib.Core.List.{[]};
 ghost use Prim.Native.Nat.{_+_, _≤_, _<_};
 ghost use lib.ListN.{length};
-ghost use Rattle.answers.specs.Answer.{numberOf, ifDone};
 ghost use Rattle.layout.specs.Layout.{keysAt, linkSize, flag, linkBytes, keyedIn, numberIn, lastIn, keysIn};
 ghost use Rattle.layout.specs.Layout.{widthByte, widthIn, sound};
-ghost use Rattle.layout.specs.Keying.{keyingAnswer};
 
 // Where the link number, the last number and the keys begin.
 const NUMBER_AT: usize = 1;
@@ -116,22 +112,4 @@ pub fn put_link(
     blocks::put_bytes(ke, bytes, KEYS_AT);
     blocks::put_bytes(km, bytes, km_at);
     blocks::put_bytes(tail, bytes, tail_at);
-}
-
-// Keys a link that takes n bytes of keys and has this tail: 0, or 1 where link or keys are of another length.
-pub fn key(link: &mut [u8], number: u32, keys: &[u8], n: usize, tail: &[u8]) -> u32
-    requires { ⌜ n ≤ 96 ⌝ }
-    ensures { λ r. let l = now (link .entry) in let k = now (keys .entry) in
-        ⌜ r ≡ numberOf (keyingAnswer (linkSize n (length (now (tail .entry)))) n l k) ⌝ }
-    ensures { λ r. let l = now (link .entry) in let k = now (keys .entry) in let t = now (tail .entry) in
-        ⌜ now (link .exit) ≡ ifDone (keyingAnswer (linkSize n (length t)) n l k) (linkBytes true number 0 k [] t) l ⌝ }
-{
-    if link.len() != KEYS_AT + n + tail.len() {
-        return 1;
-    }
-    if keys.len() != n {
-        return 1;
-    }
-    put_link(true, number, 0, keys, b"", tail, link);
-    0
 }

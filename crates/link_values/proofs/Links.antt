@@ -4,6 +4,7 @@ use Rattle.bits.specs.Bit.{bit}
 use Rattle.blocks.specs.Bytes.{_⊕_, zeros, tab, bigEndian, value}
 use Rattle.blocks.specs.Bits.{blockOf, bitAt, cells, rearranged, eachCell}
 use Rattle.baksheesh.specs.Baksheesh.{constant, after, encrypt}
+use Rattle.engines.specs.Block.{blockAnswer}
 use Rattle.modes.specs.Ctr.{ctrTo, ctr}
 use Rattle.modes.specs.Cmac.{doubled, chain, lastBlock, subkey₁, cmac}
 use Rattle.links.specs.Record.{counterBlock, recordOf}
@@ -18,5 +19,5 @@ use Rattle.link_values.specs.Links.{linkRows}
 
 pub links-hold : Hold linkRows
 unfolding same bit _⊕_ zeros tab bigEndian value blockOf bitAt cells rearranged eachCell constant after encrypt ctrTo ctr doubled chain
-    lastBlock subkey₁ cmac counterBlock recordOf shifted plainRecord openAnswer keyingAnswer sealedAnswer
+    lastBlock subkey₁ cmac counterBlock recordOf shifted plainRecord blockAnswer openAnswer keyingAnswer sealedAnswer
 links-hold = hold linkRows refl

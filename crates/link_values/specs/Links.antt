@@ -1,22 +1,24 @@
--- Worked values of links in their bytes, and what the calls on them answer to bytes that say no link. Assumes nothing.
-use mathlib.Core.Bool.{true}
+-- Worked values of links in their bytes, of receivers, and what the calls on bytes answer. Assumes nothing.
+use mathlib.Core.Bool.{true, cond}
 use mathlib.Core.List.{List, [], _∷_, _++_, map}
 use Prim.Native.Nat.{ℕ, _+_}
 use lib.ListN.{replicate, take, drop}
 use Rattle.answers.specs.Answer.{numberOf}
 use Rattle.baksheesh.specs.Baksheesh.{encrypt}
-use Rattle.links.specs.Record.{formOf}
+use Rattle.engines.specs.Block.{blockAnswer}
+use Rattle.links.specs.Record.{recordSize, told, formOf}
 use Rattle.links.specs.Links.{freshSender}
 use Rattle.links.specs.declared.Width.the-variants.{Narrow, Wide}
 use Rattle.plain.specs.Plain.{plainRecord}
-use Rattle.opening.specs.Receivers.{freshReceiver}
+use Rattle.receiver.specs.Receivers.{receiverAs, receiverForm, receiverOf, freshReceiver}
+use Rattle.receiver.specs.declared.Receiver.{Receiver}
 use Rattle.receiving.specs.Stored.{receiverBytes}
 use Rattle.receiving.specs.Calls.{receiverKeying, keyedReceiver, openedAnswer}
 use Rattle.sending.specs.Stored.{senderBytes}
 use Rattle.sending.specs.Calls.{senderKeying, keyedSender, sealedAnswer}
 use Rattle.values.specs.Row.{Row, _is_}
 use Rattle.values.specs.Records.{rising}
-use Rattle.values.specs.Windows.{early, later, receiverWith}
+use Rattle.values.specs.Windows.{early, later, openerWith}
 use Rattle.values.specs.Refusals.{zeroBytes, recordWith, senderWith}
 
 -- b with the byte v at p
@@ -28,7 +30,7 @@ abbrev pub senderAfter : ℕ → List ℕ
 senderAfter l = senderBytes (senderWith true Narrow l)
 
 abbrev pub sampleReceiver : List ℕ
-sampleReceiver = receiverBytes (receiverWith true Narrow early)
+sampleReceiver = receiverBytes (receiverAs Narrow (openerWith true early))
 
 -- what sealing m bytes on a link's bytes answers, with a tape of t, room for o and a second slice of s
 abbrev pub sealedOn : ℕ → ℕ → ℕ → ℕ → List ℕ → ℕ
@@ -49,15 +51,31 @@ openedWith o r = numberOf (openedAnswer sampleReceiver r o)
 abbrev pub sealedWith : ℕ → List ℕ
 sealedWith s = plainRecord (formOf Narrow) (encrypt (replicate 16 0xaa)) (encrypt (replicate 16 0xbb)) 7 s []
 
+-- the fields of a receiver: 1 if it is keyed, its number, the window, the shortest record, its keys
+abbrev pub receiverFields : Receiver → List ℕ
+receiverFields x =
+    cond (x .keyed) 1 0 ∷ x .number ∷ x .window .highest ∷ x .window .accepted ∷ recordSize (receiverForm x) 0 ∷ (x .ke ++ x .km)
+
+-- a block call with a key, an input and an output of so many bytes
+abbrev pub blockOn : ℕ → ℕ → ℕ → ℕ
+blockOn k i o = numberOf (blockAnswer (zeroBytes k) (zeroBytes i) (zeroBytes o))
+
 abbrev pub linkRows : List Row
 linkRows =
+    -- block calls: key, input and output of 15, 16 and 17 bytes
+    (map (λ n. blockOn n 16 16) (15 ∷ 16 ∷ 17 ∷ []) is (5 ∷ 0 ∷ 5 ∷ []))
+    ∷ (map (λ n. blockOn 16 n 16) (15 ∷ 16 ∷ 17 ∷ []) is (5 ∷ 0 ∷ 5 ∷ []))
+    ∷ (map (λ n. blockOn 16 16 n) (15 ∷ 16 ∷ 17 ∷ []) is (5 ∷ 0 ∷ 5 ∷ []))
+    -- a receiver keyed as link 7, told 2 and 0
+    ∷ (receiverFields (receiverOf 7 (told 2) (rising 32)) is (1 ∷ 7 ∷ 0 ∷ 0 ∷ 28 ∷ rising 32))
+    ∷ (receiverFields (receiverOf 7 (told 0) (rising 32)) is (1 ∷ 7 ∷ 0 ∷ 0 ∷ 24 ∷ rising 32))
     -- a sender and a receiver keyed as link 0x01020304, told 2 and 0
-    (keyedSender (zeroBytes 110) 0x01020304 2 (rising 96) is (1 ∷ 1 ∷ 2 ∷ 3 ∷ 4 ∷ (zeroBytes 8 ++ (rising 96 ++ (1 ∷ [])))))
+    ∷ (keyedSender (zeroBytes 110) 0x01020304 2 (rising 96) is (1 ∷ 1 ∷ 2 ∷ 3 ∷ 4 ∷ (zeroBytes 8 ++ (rising 96 ++ (1 ∷ [])))))
     ∷ (keyedReceiver (replicate 54 1) 0x01020304 0 (rising 32) is (1 ∷ 1 ∷ 2 ∷ 3 ∷ 4 ∷ (zeroBytes 8 ++ (rising 32 ++ zeroBytes 9))))
     -- the bytes of a sender and of a receiver: the width at the end, behind a receiver's word
     ∷ (senderBytes (senderWith true Wide 0x0102030405060708)
     is (1 ∷ 0 ∷ 0 ∷ 0 ∷ 7 ∷ 1 ∷ 2 ∷ 3 ∷ 4 ∷ 5 ∷ 6 ∷ 7 ∷ 8 ∷ (replicate 48 0xaa ++ (replicate 48 0xbb ++ (1 ∷ [])))))
-    ∷ (receiverBytes (receiverWith true Narrow later)
+    ∷ (receiverBytes (receiverAs Narrow (openerWith true later))
     is (1 ∷ 0 ∷ 0 ∷ 0 ∷ 7 ∷ 0 ∷ 0 ∷ 0 ∷ 0 ∷ 0 ∷ 0 ∷ 0 ∷ 66
     ∷ (replicate 16 0xaa ++ (replicate 16 0xbb ++ (0x80 ∷ 0 ∷ 0 ∷ 0 ∷ 0 ∷ 0 ∷ 0 ∷ 1 ∷ 0 ∷ [])))))
     -- fresh links

@@ -1,18 +1,18 @@
 -- BAKSHEESH on shares is a call of such stages: they make blocks of blocks, join to the plain cipher's rounds, show each key in its own
 -- way, and make of each share, from its lane alone, the next. Assumes nothing.
-use Rattle.prelude.proofs.{_≡_, refl, sym, ap, ap₂, _∙_, List, ℕ, zero, suc, min, _+_, _-_, _*_, _<_, arith}
-use Rattle.blocks.specs.Bytes.{Block, _⊕_, part}
+use Rattle.prelude.proofs.{_≡_, refl, sym, ap, ap₂, _∙_, List, ℕ, zero, suc, min, _*_, arith}
+use Rattle.blocks.specs.Bytes.{Block, _⊕_}
 use Rattle.blocks.proofs.ByBits.{rearranged-block, rearranged-twice, rearranged-same}
 use Rattle.baksheesh.specs.Baksheesh.{rounds, from, permBits, constant, rotated, round, after, encrypt}
 use Rattle.baksheesh.proofs.Steps.{constant-block}
-use Rattle.masking.specs.Shares.{Index, i₀, i₁, i₂, next, isFirst, Shares, Blocks, join, add, each, only, Reader, pairSize, masksAt}
-use Rattle.masking.specs.Stages.{state, masked, shownShares, lane, plainAfter}
+use Rattle.masking.specs.Shares.{Index, i₀, i₁, i₂, next, isFirst, Shares, Blocks, join, add, each, only}
+use Rattle.masking.specs.Stages.{plainAfter}
 use Rattle.masking.specs.Call.{shareRound, laneRound, encryption, plainEncryption}
-use Rattle.masking.specs.{Sbox.sboxShares, OneTape.roundOnLane}
-use Rattle.masking.proofs.Shape.{Reads, add-blocks, only-blocks, StageBlocks}
+use Rattle.masking.specs.{Sbox.sboxForm, Sbox.formShares, OneTape.roundOnLane}
+use Rattle.masking.proofs.Shape.{add-blocks, only-blocks, StageBlocks}
 use Rattle.masking.proofs.Joins.{join-add, join-only, join-map, rearranged-linear, StageJoins}
-use Rattle.masking.proofs.Lane.{lane-next, lane-after, lane-key}
-use Rattle.masking.proofs.{Sbox.sboxShares-blocks, Sbox.sboxShares-join, Probe.Turn}
+use Rattle.masking.proofs.Lane.{first-part, second-part, third-part, StageLanes}
+use Rattle.masking.proofs.{Sbox.formShares-blocks, Sbox.sbox-join, Probe.Turn}
 
 -- ---- blocks
 
@@ -27,11 +27,11 @@ encryption-blocks = record {
 
 pub round-join : (n : ℕ) (s k : Shares) → Blocks s → join (shareRound n s k) ≡ round n (join k) (join s)
 round-join n s k p =
-    join-add (add (each permBits (sboxShares s)) (only (constant n))) k
+    join-add (add (each permBits (formShares sboxForm s)) (only (constant n))) k
     ∙ ap (λ (l : List ℕ). l ⊕ join k)
-    (join-add (each permBits (sboxShares s)) (only (constant n))
+    (join-add (each permBits (formShares sboxForm s)) (only (constant n))
     ∙ ap₂ _⊕_
-    (join-map (rearranged-linear from) (sboxShares s) (sboxShares-blocks s) ∙ ap permBits (sboxShares-join s p))
+    (join-map (rearranged-linear from) (formShares sboxForm s) (formShares-blocks sboxForm s) ∙ ap permBits (sbox-join s p))
     (join-only (constant-block n)))
 
 pub encryption-joins : StageJoins encryption plainEncryption
@@ -63,35 +63,22 @@ encryption-turns n = record {
       let m : ℕ = min (suc n) rounds in sym (rotated-again m k p) ∙ ap (rotated (127 * m)) e ∙ rotated-again m l q;
 }
 
--- ---- a round of a call needs no more than its lane
+-- ---- a round needs no more than its lane
 
-module _ {key input : Shares} (M : Reader) (o n : ℕ) (l : n < rounds) (p : Blocks key) (q : Blocks input) where
-  abbrev m : Shares
-  m = masked encryption key input M o n
-
-  round-lane : (i : Index) → state encryption key input M o (suc n) i
-      ≡ laneRound n (isFirst i) (m (next i)) (m (next (next i))) (shownShares encryption key input M o n i)
-  unfolding state masked shownShares laneRound
-  round-lane i =
+pub encryption-lanes : StageLanes encryption roundOnLane
+unfolding laneRound
+encryption-lanes = record {
+  stage-lane = λ n l {key} {s} p q i.
       let own : suc n ≡ min (suc n) rounds = omega arith in
-      go i ∙ λ z. laneRound n (isFirst i) (m (next i)) (m (next (next i))) (rotated (own z) (key i))
-    where
-      go : (i : Index) → state encryption key input M o (suc n) i
-          ≡ laneRound n (isFirst i) (m (next i)) (m (next (next i))) (rotated (suc n) (key i))
-      go i₀ = refl
-      go i₁ = refl
-      go i₂ = refl
-
-  -- what the round makes of share i is made of lane i alone; with the next pair's mask it is what that pair's lanes show
-  pub masked-lane : Reads M (o + pairSize * n + pairSize) → (i : Index) → masked encryption key input M o (suc n) i
-      ≡ roundOnLane n (isFirst i) (lane encryption key input M o n i) ⊕ masksAt M (o + pairSize * suc n) i
-  unfolding masked
-  masked-lane h i =
-      let W = encryption-blocks in
-      ap (λ (s : List ℕ). s ⊕ masksAt M (o + pairSize * suc n) i)
-      (round-lane i
-      ∙ sym (λ z. laneRound n (isFirst i) (lane-next W M o n p q h i z) (lane-after W M o n p q h i z) (lane-key W M o n p q h i z)))
-
-  pub lane-follows : Reads M (o + pairSize * suc n + pairSize) → (i : Index) → part 0 16 (lane encryption key input M o (suc n) i)
-      ≡ roundOnLane n (isFirst (next i)) (lane encryption key input M o n (next i)) ⊕ masksAt M (o + pairSize * suc n) (next i)
-  lane-follows h i = lane-next encryption-blocks M o (suc n) p q h i ∙ masked-lane (λ a k. h a (omega arith)) (next i)
+      let a : Block (s (next i)) = q (next i) in
+      let b : Block (s (next (next i))) = q (next (next i)) in
+      let k : Block (rotated (min (suc n) rounds) (key i)) = rearranged-block _ _ in
+      go n key s i ∙ (λ z. laneRound n (isFirst i) (s (next i)) (s (next (next i))) (rotated (own z) (key i)))
+      ∙ sym (λ z. laneRound n (isFirst i) (first-part a b k z) (second-part a b k z) (third-part a b k z));
+}
+  where
+    go : (n : ℕ) (key s : Shares) (i : Index)
+        → encryption .stage n key s i ≡ laneRound n (isFirst i) (s (next i)) (s (next (next i))) (rotated (suc n) (key i))
+    go n key s i₀ = refl
+    go n key s i₁ = refl
+    go n key s i₂ = refl

@@ -1,11 +1,26 @@
--- A lane's 48 bytes: its parts, and what they join to. Assumes nothing.
-use Rattle.prelude.proofs.{_≡_, sym, ap, _∙_, fun-ext, List, _++_, append-assoc, ℕ, _+_, _*_, arith, length, take, length-append, take-at}
-use Rattle.prelude.proofs.{drop-at, take-all}
-use Rattle.blocks.specs.Bytes.{Block, part}
-use Rattle.masking.specs.Shares.{Index, i₀, i₁, i₂, next, Shares, Blocks, three, join, sharesIn, flat, Reader, pairSize}
-use Rattle.masking.specs.Stages.{Stages, masked, shownShares, lane, PlainStages, plainAfter}
+-- A lane's 48 bytes: its parts, and what they join to; the numbers of the shares in it. Assumes nothing.
+use Rattle.prelude.proofs.{_≡_, refl, sym, ap, _∙_, fun-ext, Bool, List, _++_, append-assoc, ℕ, zero, suc, _+_, _*_, _%_, _<_, arith}
+use Rattle.prelude.proofs.{length, take, length-append, take-at, drop-at, take-all}
+use Rattle.blocks.specs.Bytes.{Block, _⊕_, part}
+use Rattle.masking.specs.Shares.{Index, i₀, i₁, i₂, next, isFirst, indexOf, Shares, Blocks, three, join, sharesIn, flat, Reader}
+use Rattle.masking.specs.Shares.{pairSize, masksAt}
+use Rattle.masking.specs.Stages.{Stages, state, masked, shownShares, lane, PlainStages, plainAfter}
 use Rattle.masking.proofs.Shape.{Reads, shares-same, StageBlocks, masked-blocks, shown-blocks}
 use Rattle.masking.proofs.Joins.{StageJoins, join-turn, masked-join, shown-join}
+
+-- ---- indices by their numbers
+
+-- the index numbered i + 1 is the next one, and that numbered i + 2 the one after it
+pub index-next : (i : ℕ) → i < 3 → indexOf ((i + 1) % 3) ≡ next (indexOf i)
+index-next zero l = refl
+index-next (suc zero) l = refl
+index-next (suc (suc zero)) l = refl
+index-next (suc (suc (suc i))) l = absurd (omega arith)
+
+pub index-after : (i : ℕ) → i < 3 → indexOf ((i + 2) % 3) ≡ next (next (indexOf i))
+index-after i l =
+    let e : (i + 2) % 3 ≡ ((i + 1) % 3 + 1) % 3 = omega arith in
+    ap indexOf e ∙ index-next ((i + 1) % 3) (omega arith) ∙ ap next (index-next i l)
 
 -- ---- three blocks one behind the other
 
@@ -35,6 +50,13 @@ module _ {a b c : List ℕ} (p : Block a) (q : Block b) (r : Block c) where
 -- three shares, one behind the other, are read back
 pub shares-flat : (s : Shares) → Blocks s → sharesIn (flat s) ≡ s
 shares-flat s b = shares-same (first-part (b _) (b _) (b _)) (second-part (b _) (b _) (b _)) (third-part (b _) (b _) (b _))
+
+-- share i stands at 16 i
+pub part-flat : (s : Shares) → Blocks s → (i : ℕ) → i < 3 → part (16 * i) 16 (flat s) ≡ s (indexOf i)
+part-flat s p zero l = first-part (p _) (p _) (p _)
+part-flat s p (suc zero) l = second-part (p _) (p _) (p _)
+part-flat s p (suc (suc zero)) l = third-part (p _) (p _) (p _)
+part-flat s p (suc (suc (suc i))) l = absurd (omega arith)
 
 -- ---- the lanes of pair n + 1 of a call
 
@@ -73,3 +95,23 @@ module _ {D : Stages} (W : StageBlocks D) {key input : Shares} (M : Reader) (o n
 
     pub keys-join : join (λ i. part 32 16 (lane D key input M o n i)) ≡ D .shownKey n (join key)
     keys-join = ap join (fun-ext lane-key) ∙ shown-join W J M o p q n
+
+-- ---- a stage needs of a share no more than its lane
+
+-- stage n + 1 makes of a share, the first one or another, what `onLane n` makes of its lane
+pub record StageLanes (D : Stages) (onLane : ℕ → Bool → List ℕ → List ℕ) : Type 0 where
+  pub stage-lane : (n : ℕ) → n < D .count → {key s : Shares} → Blocks key → Blocks s → (i : Index)
+      → D .stage n key s i ≡ onLane n (isFirst i) (s (next i) ++ (s (next (next i)) ++ D .shownKey n (key i)))
+
+module _ {D : Stages} (W : StageBlocks D) {onLane : ℕ → Bool → List ℕ → List ℕ} (L : StageLanes D onLane) {key input : Shares}
+    (M : Reader) (o n : ℕ) (l : n < D .count) (p : Blocks key) (q : Blocks input) where
+  -- with the next pair's mask it is what that pair's lanes show
+  pub masked-lane : Reads M (o + pairSize * n + pairSize) → (i : Index) → masked D key input M o (suc n) i
+      ≡ onLane n (isFirst i) (lane D key input M o n i) ⊕ masksAt M (o + pairSize * suc n) i
+  unfolding state masked lane shownShares
+  masked-lane h i =
+      ap (λ (s : List ℕ). s ⊕ masksAt M (o + pairSize * suc n) i) (L .stage-lane n l p (masked-blocks W M o p q n h) i)
+
+  pub lane-follows : Reads M (o + pairSize * suc n + pairSize) → (i : Index) → part 0 16 (lane D key input M o (suc n) i)
+      ≡ onLane n (isFirst (next i)) (lane D key input M o n (next i)) ⊕ masksAt M (o + pairSize * suc n) (next i)
+  lane-follows h i = lane-next W M o (suc n) p q h i ∙ masked-lane (λ a k. h a (omega arith)) (next i)

@@ -42,15 +42,15 @@ module _ {D : Stages} (W : StageBlocks D) (T : (n : ℕ) → Turn (D .shownKey n
   unfolding lane masked shownShares shows met keyed probe
   one-tape C E n t bt fit i = one-tape-at (omega arith) (D .shownKey n) (T n) (probe C n) (probe E n) t bt fit i
 
--- the same where the tape has to be accepted, and what is shown with one that is goes by other words
+-- the same where a tape has to be accepted, as each of that many bytes is, and what is shown with an accepted one goes by other words
 pub one-accepted : {a o : ℕ} {t seen seen′ : List ℕ} {accepts : List ℕ → Type 0} {shown shown′ : List ℕ → List ℕ} → seen ≡ seen′
-    → ((w : List ℕ) → length w ≡ length t → accepts w) → ((w : List ℕ) → Bytes w → accepts w → shown w ≡ shown′ w)
+    → ((w : List ℕ) → Bytes w → length w ≡ length t → accepts w) → ((w : List ℕ) → Bytes w → accepts w → shown w ≡ shown′ w)
     → ExactlyOne (Shows a o t seen′ every shown′) → ExactlyOne (Shows a o t seen accepts shown)
 one-accepted e f g h = record {
   one = h .one;
   holds =
       let S = h .holds in
-      let A = f (h .one) (S .as-long) in
+      let A = f (h .one) (S .all-bytes) (S .as-long) in
       record {
         as-long = S .as-long;
         all-bytes = S .all-bytes;

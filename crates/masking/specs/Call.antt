@@ -5,17 +5,17 @@ use Prim.Native.Nat.{ℕ, suc, min}
 use Rattle.blocks.specs.Bytes.{_⊕_, zeros}
 use Rattle.baksheesh.specs.Baksheesh.{rounds, permBits, constant, rotated, round}
 use Rattle.masking.specs.Shares.{Shares, add, each, only}
-use Rattle.masking.specs.Sbox.{sboxShare, sboxShares}
+use Rattle.masking.specs.Sbox.{sboxForm, formShare, formShares}
 use Rattle.masking.specs.Stages.{Stages, PlainStages, pairs, masksSize}
 
 -- what round n + 1 makes of three masked shares under the round key's shares: the shared S-box, the bit move on each share, the
 -- constants into share 0, the key's shares into theirs
 abbrev pub shareRound : ℕ → Shares → Shares → Shares
-shareRound n s k = add (add (each permBits (sboxShares s)) (only (constant n))) k
+shareRound n s k = add (add (each permBits (formShares sboxForm s)) (only (constant n))) k
 
 -- what it makes of one share, the first one or another, from its lane alone: the next two shares a and b, and the round key's share k
 unfoldable pub laneRound : ℕ → Bool → List ℕ → List ℕ → List ℕ → List ℕ
-laneRound n first a b k = (permBits (sboxShare first a b) ⊕ cond first (constant n) zeros) ⊕ k
+laneRound n first a b k = (permBits (formShare sboxForm first a b) ⊕ cond first (constant n) zeros) ⊕ k
 
 -- the key's shares go into the input's; each stage is a round. A pair shows the key of the round behind it, the last one that of the
 -- last round

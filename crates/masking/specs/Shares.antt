@@ -1,7 +1,7 @@
 -- Three XOR shares of a block, numbered 0, 1, 2, counted modulo 3; the tape of their masks, and what is read of it. Assumes nothing.
 use mathlib.Core.Bool.{Bool, true, false}
 use mathlib.Core.List.{List, _++_}
-use Prim.Native.Nat.{ℕ, _+_}
+use Prim.Native.Nat.{ℕ, zero, suc, _+_}
 use Rattle.blocks.specs.Bytes.{_⊕_, Block, zeros, part}
 
 pub data Index : Type 0 where
@@ -16,6 +16,12 @@ abbrev pub isFirst : Index → Bool
 isFirst i₀ = true
 isFirst i₁ = false
 isFirst i₂ = false
+
+-- the index numbered 0, 1 or 2
+abbrev pub indexOf : ℕ → Index
+indexOf zero = i₀
+indexOf (suc zero) = i₁
+indexOf (suc (suc n)) = i₂
 
 abbrev pub Shares : Type 0
 Shares = Index → List ℕ

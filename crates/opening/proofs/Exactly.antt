@@ -1,11 +1,10 @@
 -- Opening accepts exactly the records that sealing makes for this link with a number that its window admits, and returns that message, past
 -- which the output is as it was: of any form that a record can have, under any cipher that makes blocks of blocks. Assumes nothing.
-use Rattle.prelude.proofs.{_≡_, refl, sym, ap, ap₂, _∙_, subst, _↔_, true, not, List, [], _∷_, ℕ, _^_, _≤_, _<_, arith, eqb, length}
-use Rattle.prelude.proofs.{inl, ltb-false, eqb-true, not-false, le-ltb}
-use Rattle.blocks.specs.Bytes.{Bytes, Block, MakesBlocks, sameBytes, part, put}
-use Rattle.blocks.proofs.{Parts.part-length, Parts.part-bytes, Numbers.part-lt, Same.same-true, Same.same-refl}
-use Rattle.answers.specs.Answer.{done, refused, Accepts, FirstOf, NoneOf, Kept}
-use Rattle.answers.proofs.First.{done-none, accepts-none, none-accepts, if-done, if-refused, eq-not}
+use Rattle.prelude.proofs.{_≡_, refl, sym, ap, ap₂, _∙_, subst, _↔_, inl, true, List, [], _∷_, ℕ, _^_, _≤_, _<_, arith, length}
+use Rattle.blocks.specs.Bytes.{Bytes, Block, MakesBlocks, part, put}
+use Rattle.blocks.proofs.{Parts.part-length, Parts.part-bytes, Numbers.part-lt}
+use Rattle.answers.specs.Answer.{done, refused, numberOf, Accepts, FirstOf, Kept}
+use Rattle.answers.proofs.First.{if-done, if-refused}
 use Rattle.answers.proofs.First as First
 use Rattle.answers.proofs.Output.{output-kept}
 use Rattle.links.specs.Record.{Proper, longest, formOf, added, recordSize, numberSize, headSize, usable, recordOf}
@@ -17,12 +16,13 @@ use Rattle.plain.specs.Plain.{crypted, tagOf, plainRecord}
 use Rattle.plain.proofs.Sealed.{crypted-length, crypted-bytes, crypted-twice, plain-length, plain-link, plain-sequence, plain-text}
 use Rattle.plain.proofs.Sealed.{plain-tag}
 use Rattle.window.specs.Window.{Admitted}
-use Rattle.window.proofs.Admits.{passes-admitted, admitted-passes, after-highest}
-use Rattle.opening.specs.Open.{openAnswer, openCauses, openLink, openOutput, accepting, messageIn, messageSize, rightTag}
+use Rattle.window.proofs.Admits.{after-highest}
+use Rattle.opening.specs.Opener.{Opener, receiverKeys, keyedOpener, accepting}
+use Rattle.opening.specs.Open.{openAnswer, openCauses, openLink, openOutput, messageIn, messageSize, rightTag}
 use Rattle.opening.specs.Exactly.{Formed, Opens, Sealed}
-use Rattle.opening.specs.{declared.Receiver.Receiver, Receivers.receiverKeys, Receivers.receiverOf}
+use Rattle.opening.proofs.Openable.{Openable, openable-done, accepted-openable, accepted-done}
 
-module _ (f : Form) (P : Proper f) (C : List ℕ → List ℕ → List ℕ) (M : (k : List ℕ) → Block k → MakesBlocks (C k)) (x : Receiver)
+module _ (f : Form) (P : Proper f) (C : List ℕ → List ℕ → List ℕ) (M : (k : List ℕ) → Block k → MakesBlocks (C k)) (x : Opener)
     (F : Formed x) where
   -- CTR's block function and CMAC's
   abbrev E : List ℕ → List ℕ
@@ -43,28 +43,24 @@ module _ (f : Form) (P : Proper f) (C : List ℕ → List ℕ → List ℕ) (M :
 
   -- ---- from an accepted opening to the sealing
 
-  module _ (r : List ℕ) (b : Bytes r) where
-    none-sealed : (o : ℕ) → NoneOf (openCauses f C x r o) → Sealed f C x r (messageIn f C x r) (sequenceIn f r)
-    unfolding plainRecord
-    none-sealed o h =
-        let s : ℕ = sequenceIn f r in
-        let n : ℕ = x .number in
-        let low : added f ≤ length r = omega (arith, ltb-false (length r) (recordSize f 0) (h .1 .0)) in
-        let high : length r ≤ recordSize f longest = ltb-false (recordSize f longest) (length r) (h .1 .1 .0) in
-        let link : linkIn r ≡ n = eqb-true (linkIn r) n (not-false (eqb (linkIn r) n) (h .1 .1 .1 .0)) in
-        let tag : rightTag f C x r ≡ tagIn f r =
-        same-true (rightTag f C x r) (tagIn f r) (not-false (sameBytes (rightTag f C x r) (tagIn f r)) (h .1 .1 .1 .1 .1 .1 .1 .0)) in
-        let text : crypted E n s (messageIn f C x r) ≡ textIn f r = crypted-twice E e-makes n s (textIn f r) in
-        let l = message-length r low in
-        record {
-          size = omega arith;
-          bytes = crypted-bytes E e-makes n s (textIn f r) (part-bytes (headSize f) (messageSize f r) r b);
-          admitted = passes-admitted (x .window) s (h .1 .1 .1 .1 .1 .0) (h .1 .1 .1 .1 .1 .1 .0);
-          fits = part-lt numberSize (f .sequence) r b (omega arith);
-          made =
-              sym (record-made f r b low) ∙ ap₂ (λ (k : ℕ) (t : List ℕ). recordOf f k s (textIn f r) t) link (sym tag)
-              ∙ ap (λ (c : List ℕ). recordOf f n s c (tagOf f D n s c)) (sym text);
-        }
+  openable-sealed : (r : List ℕ) → Bytes r → (o : ℕ) → Openable f C x r o → Sealed f C x r (messageIn f C x r) (sequenceIn f r)
+  unfolding plainRecord
+  openable-sealed r b o O =
+      let s : ℕ = sequenceIn f r in
+      let n : ℕ = x .number in
+      let sized = O .readable .sized in
+      let text : crypted E n s (messageIn f C x r) ≡ textIn f r = crypted-twice E e-makes n s (textIn f r) in
+      let l = message-length r (sized .low) in
+      record {
+        size = omega arith;
+        bytes = crypted-bytes E e-makes n s (textIn f r) (part-bytes (headSize f) (messageSize f r) r b);
+        admitted = O .admitted;
+        fits = part-lt numberSize (f .sequence) r b (omega arith);
+        made =
+            sym (record-made f r b (sized .low))
+            ∙ ap₂ (λ (k : ℕ) (t : List ℕ). recordOf f k s (textIn f r) t) (O .readable .link) (sym (O .tagged))
+            ∙ ap (λ (c : List ℕ). recordOf f n s c (tagOf f D n s c)) (sym text);
+      }
 
   -- ---- and back: the fields of a sealed record, and no cause to refuse it
 
@@ -89,15 +85,15 @@ module _ (f : Form) (P : Proper f) (C : List ℕ → List ℕ → List ℕ) (M :
     message : messageIn f C x r ≡ m
     message = ap₂ (λ (k : ℕ) (c : List ℕ). crypted E (x .number) k c) sequence text ∙ crypted-twice E e-makes (x .number) s m
 
-    sealed-none : (o : ℕ) → usable f (x .keyed) (x .window .highest) ≡ true → length r ≤ recordSize f o → NoneOf (openCauses f C x r o)
-    sealed-none o keyed room =
+    sealed-openable : (o : ℕ) → usable f (x .keyed) (x .window .highest) ≡ true → length r ≤ recordSize f o → Openable f C x r o
+    sealed-openable o keyed room =
         let l = long in
-        let same = ap (λ (t : List ℕ). not (sameBytes (rightTag f C x r) t)) (sym tag) ∙ ap not (same-refl (rightTag f C x r)) in
-        let new = admitted-passes (x .window) (sequenceIn f r) (subst (λ (t : ℕ). Admitted (x .window) t) (sym sequence) (S .admitted)) in
-        let fits = le-ltb o (messageSize f r) (omega arith) in
-        let short = le-ltb (recordSize f longest) (length r) (omega arith) in
-        let long = le-ltb (length r) (recordSize f 0) (omega arith) in
-        (ap not keyed, (long, (short, (eq-not (linkIn r) (x .number) link, (fits, (new .0, (new .1, (same, tt))))))))
+        record {
+          readable = record { keyed = keyed; sized = record { low = omega arith; high = omega (arith, S .size) }; link = link };
+          room = omega arith;
+          admitted = subst (λ (t : ℕ). Admitted (x .window) t) (sym sequence) (S .admitted);
+          tagged = tag;
+        }
 
   -- ---- accepted exactly
 
@@ -106,25 +102,21 @@ module _ (f : Form) (P : Proper f) (C : List ℕ → List ℕ → List ℕ) (M :
   pub accepts-exactly : (r o : List ℕ) → Bytes r → Accepts (openAnswer f C x r (length o))
       ↔ ((usable f (x .keyed) (x .window .highest) ≡ true) × (length r ≤ recordSize f (length o))
       × ((m : List ℕ) × (s : ℕ) × Sealed f C x r m s))
-  unfolding openAnswer
   accepts-exactly r o b = (
-    (λ e.
-        let h = accepts-none (openCauses f C x r (length o)) _ tt e in
-        let room = ltb-false (length o) (messageSize f r) (h .1 .1 .1 .1 .0) in
-        let keyed = not-false (usable f (x .keyed) (x .window .highest)) (h .0) in
-        (keyed, omega arith, (messageIn f C x r, sequenceIn f r, none-sealed r b (length o) h))),
-    (λ S. none-accepts (openCauses f C x r (length o)) _ (sealed-none r (S .2 .0) (S .2 .1) (S .2 .2) (length o) (S .0) (S .1))),
+    (λ a.
+        let O = accepted-openable f C x r (length o) a in
+        let room = O .room in
+        (O .readable .keyed, omega arith, (messageIn f C x r, sequenceIn f r, openable-sealed r b (length o) O))),
+    (λ S. ap numberOf (openable-done f C x r (length o) (sealed-openable r (S .2 .0) (S .2 .1) (S .2 .2) (length o) (S .0) (S .1)))),
   )
 
   -- and then the values, the message written and the link are those of that message and number
   pub opened-exactly : (r o m : List ℕ) (s : ℕ) → usable f (x .keyed) (x .window .highest) ≡ true → length r ≤ recordSize f (length o)
       → Sealed f C x r m s → Opens f C x r o m (accepting x s)
-  unfolding openAnswer
   opened-exactly r o m s keyed room S =
       let l = long r m s S in
       let size : messageSize f r ≡ length m = omega arith in
-      let none = sealed-none r m s S (length o) keyed room in
-      let answer : openAnswer f C x r (length o) ≡ done (messageSize f r ∷ []) = done-none (openCauses f C x r (length o)) _ none in
+      let answer = openable-done f C x r (length o) (sealed-openable r m s S (length o) keyed room) in
       record {
         answer = answer ∙ ap (λ (n : ℕ). done (n ∷ [])) size;
         link = sym (if-done answer (accepting x (sequenceIn f r)) x) ∙ ap (accepting x) (sequence r m s S);
@@ -133,12 +125,9 @@ module _ (f : Form) (P : Proper f) (C : List ℕ → List ℕ → List ℕ) (M :
 
   -- past the message the output is as it was
   pub opened-kept : (r o : List ℕ) → Accepts (openAnswer f C x r (length o)) → Kept (messageSize f r) o (openOutput f C x r o)
-  unfolding openAnswer
   opened-kept r o a =
-      let h = accepts-none (openCauses f C x r (length o)) _ tt a in
-      let low = ltb-false (length r) (recordSize f 0) (h .1 .0) in
-      output-kept (done-none (openCauses f C x r (length o)) _ h) (messageIn f C x r) o _ (message-length r (omega arith))
-      (ltb-false (length o) (messageSize f r) (h .1 .1 .1 .1 .0))
+      let O = accepted-openable f C x r (length o) a in
+      output-kept (accepted-done f C x r (length o) a) (messageIn f C x r) o _ (message-length r (O .readable .sized .low)) (O .room)
 
   -- the link that is left counts as keyed as well
   pub accepting-usable : (r m : List ℕ) (s : ℕ) → usable f (x .keyed) (x .window .highest) ≡ true → Sealed f C x r m s
@@ -154,7 +143,7 @@ module _ (f : Form) (P : Proper f) (C : List ℕ → List ℕ → List ℕ) (M :
   pub sealed-once : (r m m′ : List ℕ) (s s′ : ℕ) → Sealed f C x r m s → Sealed f C x r m′ s′ → (m ≡ m′) × (s ≡ s′)
   sealed-once r m m′ s s′ S S′ = (sym (message r m s S) ∙ message r m′ s′ S′, sym (sequence r m s S) ∙ sequence r m′ s′ S′)
 
-module _ (f : Form) (C : List ℕ → List ℕ → List ℕ) (x : Receiver) where
+module _ (f : Form) (C : List ℕ → List ℕ → List ℕ) (x : Opener) where
   -- ---- each refusal number has exactly its cause, in their order
 
   pub refused-exactly : (r : List ℕ) (o n : ℕ) → openAnswer f C x r o ≡ refused n ↔ FirstOf n (openCauses f C x r o)
@@ -169,9 +158,8 @@ module _ (f : Form) (C : List ℕ → List ℕ → List ℕ) (x : Receiver) wher
 -- ---- links hold what they can, and the keys that they were given
 
 -- keying with 32 bytes makes such a link
-pub keyed-formed : (n : ℕ) (w : Width) (keys : List ℕ) → n < 256 ^ numberSize → length keys ≡ receiverKeys → Bytes keys
-    → Formed (receiverOf n w keys)
-keyed-formed n w keys h e b = record {
+pub keyed-formed : (n : ℕ) (keys : List ℕ) → n < 256 ^ numberSize → length keys ≡ receiverKeys → Bytes keys → Formed (keyedOpener n keys)
+keyed-formed n keys h e b = record {
   number = h;
   ke = record { size = part-length 0 16 keys (omega arith); bytes = part-bytes 0 16 keys b };
   km = record { size = part-length 16 16 keys (omega arith); bytes = part-bytes 16 16 keys b };
@@ -181,10 +169,10 @@ keyed-formed n w keys h e b = record {
 pub keyed-opens : (w : Width) (C : List ℕ → List ℕ → List ℕ) → ((k : List ℕ) → Block k → MakesBlocks (C k))
     → (n s : ℕ) (keys m o : List ℕ) → n < 256 ^ numberSize → length keys ≡ receiverKeys → Bytes keys
     → 0 < s → s < 256 ^ formOf w .sequence → Bytes m → length m ≤ longest → length m ≤ length o
-    → Opens (formOf w) C (receiverOf n w keys) (plainRecord (formOf w) (C (part 0 16 keys)) (C (part 16 16 keys)) n s m) o m
-    (accepting (receiverOf n w keys) s)
+    → Opens (formOf w) C (keyedOpener n keys) (plainRecord (formOf w) (C (part 0 16 keys)) (C (part 16 16 keys)) n s m) o m
+    (accepting (keyedOpener n keys) s)
 keyed-opens w C M n s keys m o h e b above fits bm size room =
-    let F = keyed-formed n w keys h e b in
+    let F = keyed-formed n keys h e b in
     let l = plain-length (formOf w) (proper w) _ _ (M _ (F .ke)) (M _ (F .km)) n s m bm in
-    opened-exactly (formOf w) (proper w) C M (receiverOf n w keys) F _ o m s (keyed-usable w) (omega arith)
+    opened-exactly (formOf w) (proper w) C M (keyedOpener n keys) F _ o m s (keyed-usable w) (omega arith)
     (record { size = size; bytes = bm; admitted = (above, inl above); fits = fits; made = refl })

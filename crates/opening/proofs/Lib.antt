@@ -1,3 +1,4 @@
 pub mod Answers
+pub mod Openable
 pub mod Exactly
 pub mod History

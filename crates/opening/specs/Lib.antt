@@ -1,4 +1,4 @@
-pub mod Receivers
+pub mod Opener
 pub mod Open
 pub mod Exactly
 pub mod History

@@ -4,7 +4,7 @@ use Prim.Native.Nat.{ℕ}
 use Rattle.modes.specs.Ctr as Ctr
 use Rattle.masking.specs.Shares.{Index, next, join}
 use Rattle.shares.specs.Packed.{sharesOf}
-use Rattle.runs.specs.declared.Seen.{Seen}
+use Rattle.walks.specs.declared.Seen.{Seen}
 use Rattle.inputs.specs.Inputs.{outAt}
 
 -- the message under CTR, whose output blocks are the joined output shares in o

@@ -1,14 +1,13 @@
 // What leaves the shares: the record of a sealing, and a lane.
 use links::Form;
-use runs::Seen;
 use shares::unpack_shares;
+use walks::Seen;
 ghost use mathlib.Core.Path.{_≡_};
 ghost use Prim.Native.Nat.{_+_, _≤_, _<_};
 ghost use lib.ListN.{length, take};
 ghost use Rattle.blocks.specs.Bytes.{put};
 ghost use Rattle.links.specs.Record.{Proper, longest, recordSize, recordOf};
-ghost use Rattle.masking.specs.Shares.{join, sharesIn};
-ghost use Rattle.calls.specs.Entry.{indexOf};
+ghost use Rattle.masking.specs.Shares.{indexOf, join, sharesIn};
 ghost use Rattle.inputs.specs.Inputs.{outsSize};
 ghost use Rattle.outgoing.specs.Outgoing.{ciphertextOf, laneIn};
 

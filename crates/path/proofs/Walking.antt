@@ -1,73 +1,84 @@
--- The calls of a sealing one after the other: what each takes in, and what becomes of its output. Assumes nothing.
+-- The calls of a job one after the other: what each takes in, and what becomes of its output. Assumes nothing.
 use Rattle.prelude.proofs.{_≡_, refl, sym, ap, ap₂, _∙_, List, [], _∷_, ℕ, zero, suc, _+_, _-_, _*_, _≤_, _<_, _^_, add-one}
 use Rattle.prelude.proofs.{ℕ-discrete, arith, length, eq-eqb, ne-eqb}
-use Rattle.blocks.specs.Bytes.{zeros, put, blockCount}
+use Rattle.blocks.specs.Bytes.{zeros, put}
 use Rattle.blocks.proofs.{Parts.put-length, Written.part-before, Written.part-there}
 use Rattle.words.specs.Words.{unpacked}
-use Rattle.links.specs.{declared.Sender.Sender}
-use Rattle.masking.specs.Shares.{i₀, i₁, i₂, Shares, add, each, only, sharesIn, flat, Reader, at, masksAt}
+use Rattle.links.specs.Record.{counterBlock}
+use Rattle.masking.specs.Shares.{i₀, i₁, i₂, Shares, add, each, only, sharesIn, flat, Reader, masksAt}
 use Rattle.masking.specs.Call.{encryption, pairCount, callSize}
 use Rattle.masking.proofs.{Shape.shares-same, Lane.parts-length, Lane.shares-flat}
 use Rattle.shares.specs.{declared.Triple.Triple, Packed.sharesOf}
 use Rattle.shares.proofs.{Packed.zero-words, Onward.packed-blocks}
 use Rattle.runs.specs.Run.{Run, keyShares, outputs, inputOf, outputOf}
-use Rattle.runs.specs.{declared.Watch.Watch, declared.Walk.Walk, Walk.Stepped, Walk.Walked}
-use Rattle.runs.proofs.{Run.output-at, Walking.step-more}
-use Rattle.calls.specs.Numbered.{Call, ctr, sub, mac, callNumber, callOf, callCount, ofKey, keyAt}
-use Rattle.calls.specs.Sealed.{lastKey, textBlock, counter, macBlock, chain, subkey, inputFrom, sealingCalls, ctrOut}
+use Rattle.runs.proofs.Run.{output-at}
+use Rattle.walks.specs.{declared.Watch.Watch, declared.Walk.Walk, Walk.Stepped}
+use Rattle.walks.proofs.Walking.{step-more}
+use Rattle.calls.specs.Numbered.{Call, ctr, sub, mac, IsCall, ofKey, keyAt}
+use Rattle.calls.specs.Job.{Job, lastKey, count, placeOf, callIn, macBlock, chain, subkey, inputFrom, jobCalls, ctrOut}
+use Rattle.calls.specs.Sealed.{textBlock, sealingJob}
+use Rattle.calls.proofs.Numbered.{call-back}
 use Rattle.inputs.specs.Inputs.{outsSize, blockShares}
-use Rattle.path.specs.Path.{Ready, OutsHold}
+use Rattle.path.specs.Path.{Room, Counted, IsJob, JobWalked, OutsHold, BlocksHold}
 
 zero-shares : only (unpacked (0 ∷ 0 ∷ 0 ∷ 0 ∷ [])) ≡ λ i. zeros
 zero-shares = shares-same zero-words refl refl
 
--- the next call can be done
-pub walked-ready : (x : Sender) (m t : List ℕ) (a : Watch) (k : ℕ) (w : Walk) → Ready x m t a → Walked (sealingCalls x m) (at t) a k w
-    → k < callCount (blockCount (length m))
-    → (1 ≤ a .pair) × (a .pair ≤ pairCount) × (w .used + callSize ≤ length t) × (w .calls < 2 ^ 32)
-walked-ready x m t a k w R W h =
-    (R .low, R .high, omega (arith, W .used, R .long), omega (arith, W .calls, R .short))
+-- of n calls from w on, v stands behind j: the next one can be done
+pub room-left : {n : ℕ} {t : List ℕ} {a : Watch} {w : Walk} → Room n t a w → (j : ℕ) → j < n → {v : Walk} → Counted j w v
+    → (1 ≤ a .pair) × (a .pair ≤ pairCount) × (v .used + callSize ≤ length t) × (v .calls < 2 ^ 32)
+room-left R j h C = (R .low, R .high, omega (arith, R .tape, C .used), omega (arith, R .calls, C .calls))
 
-module _ (x : Sender) (m : List ℕ) (M : Reader) where
-  abbrev n : ℕ
-  n = blockCount (length m)
+pub counted-none : (w : Walk) → Counted 0 w w
+counted-none w = record { used = omega arith; calls = omega arith }
 
+pub counted-at : {j k : ℕ} {w r : Walk} → j ≡ k → Counted j w r → Counted k w r
+counted-at e C = record { used = omega (arith, C .used); calls = omega (arith, C .calls) }
+
+pub counted-more : {j : ℕ} {w v r : Walk} → Counted j w v → {k x : Shares} {M : Reader} {a : Watch}
+    → Stepped encryption k x M a v r → Counted (j + 1) w r
+counted-more C S = record { used = omega (arith, C .used, S .used); calls = omega (arith, C .calls, S .calls) }
+
+module _ (J : Job) (M : Reader) where
   abbrev R : Run
-  R = sealingCalls x m
+  R = jobCalls J
 
   abbrev out : ℕ → Shares
   out = outputOf encryption R M
 
-  -- ---- a call that is the call c
+  -- ---- the call c comes next: it leads behind itself, and gives its output
 
-  module _ (c : Call) (e : callOf n (callNumber n c) ≡ c) where
-    key-given : add (sharesIn (ofKey (x .ke) (x .km) c)) (masksAt M (keyAt c)) ≡ keyShares encryption R M (callNumber n c)
+  module _ {n s z : ℕ} (I : IsJob J n s z) (c : Call) (i : IsCall (count J) c) where
+    back : callIn J (placeOf J c) ≡ c
+    back = call-back (J .order) (count J) (I .fills) c i
+
+    key-given : add (sharesIn (ofKey (J .ke) (J .km) c)) (masksAt M (keyAt c)) ≡ keyShares encryption R M (placeOf J c)
     unfolding keyShares
-    key-given = λ i. add (sharesIn (ofKey (x .ke) (x .km) (sym e i))) (masksAt M (keyAt (sym e i)))
+    key-given = λ i. add (sharesIn (ofKey (J .ke) (J .km) (sym back i))) (masksAt M (keyAt (sym back i)))
 
-    input-given : inputFrom x m c (outputs encryption R M (callNumber n c - 1)) ≡ inputOf encryption R M (callNumber n c)
+    input-given : inputFrom J c (outputs encryption R M (placeOf J c - 1)) ≡ inputOf encryption R M (placeOf J c)
     unfolding inputOf
-    input-given = λ i. inputFrom x m (sym e i) (outputs encryption R M (callNumber n c - 1))
+    input-given = λ i. inputFrom J (sym back i) (outputs encryption R M (placeOf J c - 1))
 
-    -- it comes next: it leads behind itself, and gives its output
-    pub call-more : (a : Watch) (k : ℕ) → callNumber n c ≡ k + 1 → {key input : Shares}
-        → key ≡ add (sharesIn (ofKey (x .ke) (x .km) c)) (masksAt M (keyAt c))
-        → input ≡ inputFrom x m c (outputs encryption R M (callNumber n c - 1))
-        → {w r : Walk} → Walked R M a k w → Stepped key input M a w r
-        → Walked R M a (callNumber n c) r × (sharesOf (r .out) ≡ out (callNumber n c))
-    call-more a k number ek ei W S = step-more R M a k (callNumber n c) number (omega arith) (ek ∙ key-given) (ei ∙ input-given) W S
+    pub call-more : (a : Watch) (k : ℕ) → placeOf J c ≡ k + 1 → {key input : Shares}
+        → key ≡ add (sharesIn (ofKey (J .ke) (J .km) c)) (masksAt M (keyAt c))
+        → input ≡ inputFrom J c (outputs encryption R M (placeOf J c - 1))
+        → {w r : Walk} → JobWalked J M a k w → Stepped encryption key input M a w r
+        → JobWalked J M a (placeOf J c) r × (sharesOf (r .out) ≡ out (placeOf J c))
+    call-more a k number ek ei W S =
+        step-more encryption R M a k (placeOf J c) number (omega arith) (ek ∙ key-given) (ei ∙ input-given) W S
 
   -- ---- what CTR's calls take in, and their output shares
 
-  pub ctr-in : (j : ℕ) (f : ℕ → Shares) → only (counter x m j) ≡ inputFrom x m (ctr j) f
+  pub ctr-in : {n s z : ℕ} → IsJob J n s z → (j : ℕ) (f : ℕ → Shares) → only (counterBlock n s j) ≡ inputFrom J (ctr j) f
   unfolding inputFrom
-  ctr-in j f = refl
+  ctr-in I j f = sym (λ i. only (counterBlock (I .number i) (I .sequence i) j))
 
-  pub outs-none : (o : List ℕ) → length o ≡ outsSize → OutsHold x m M 0 o
+  pub outs-none : (o : List ℕ) → length o ≡ outsSize → OutsHold J M 0 o
   outs-none o s = record { size = s; hold = λ j h. absurd (omega arith) }
 
-  pub outs-more : (j : ℕ) (t : Triple) (v o : List ℕ) → OutsHold x m M j o → 48 * j + 48 ≤ outsSize → v ≡ flat (sharesOf t)
-      → sharesOf t ≡ ctrOut x m M j → OutsHold x m M (j + 1) (put (48 * j) v o)
+  pub outs-more : (j : ℕ) (t : Triple) (v o : List ℕ) → OutsHold J M j o → 48 * j + 48 ≤ outsSize → v ≡ flat (sharesOf t)
+      → sharesOf t ≡ ctrOut J M j → OutsHold J M (j + 1) (put (48 * j) v o)
   outs-more j t v o H fit e d = record {
     size = put-length (48 * j) v o (omega (arith, long, H .size)) ∙ H .size;
     hold = λ i l. elim (ℕ-discrete i j) [
@@ -80,60 +91,67 @@ module _ (x : Sender) (m : List ℕ) (M : Reader) where
       long : length v ≡ 48
       long = ap length e ∙ parts-length (packed-blocks t i₀) (packed-blocks t i₁) (packed-blocks t i₂)
 
-  pub outs-at : {j k : ℕ} {o : List ℕ} → j ≡ k → OutsHold x m M j o → OutsHold x m M k o
+  pub outs-at : {j k : ℕ} {o : List ℕ} → j ≡ k → OutsHold J M j o → OutsHold J M k o
   outs-at e H = record { size = H .size; hold = λ i l. H .hold i (omega arith) }
 
   -- ---- what CMAC's calls take in
 
-  pub sub-in : (f : ℕ → Shares) {s : Shares} → s ≡ only (unpacked (0 ∷ 0 ∷ 0 ∷ 0 ∷ [])) → s ≡ inputFrom x m sub f
+  pub sub-in : (f : ℕ → Shares) {s : Shares} → s ≡ only (unpacked (0 ∷ 0 ∷ 0 ∷ 0 ∷ [])) → s ≡ inputFrom J sub f
   unfolding inputFrom
   sub-in f e = e ∙ zero-shares
 
-  pub chain-none : {s : Shares} → s ≡ only (unpacked (0 ∷ 0 ∷ 0 ∷ 0 ∷ [])) → s ≡ chain x m out 0
+  pub chain-none : {s : Shares} → s ≡ only (unpacked (0 ∷ 0 ∷ 0 ∷ 0 ∷ [])) → s ≡ chain J out 0
   unfolding chain
   chain-none e = e ∙ zero-shares
 
-  pub chain-more : (j : ℕ) → out (callNumber n (mac j)) ≡ chain x m out (j + 1)
+  pub chain-more : (j : ℕ) → out (placeOf J (mac j)) ≡ chain J out (j + 1)
   unfolding chain
   chain-more j = rw add-one
 
-  -- the blocks, with the output shares in o
-  pub block-held : (j : ℕ) {o : List ℕ} → OutsHold x m M n o → j ≤ n → blockShares x m o j ≡ macBlock x m out j
-  unfolding macBlock
-  block-held zero H l = refl
-  block-held (suc j) H l = ap (textBlock m j) (H .hold j (omega arith))
-
-  pub subkey-made : {l : Shares} → l ≡ out (callNumber n sub) → each (lastKey (length m)) l ≡ subkey x m out
+  pub subkey-made : {n s z : ℕ} → IsJob J n s z → {l : Shares} → l ≡ out (placeOf J sub) → each (lastKey z) l ≡ subkey J out
   unfolding subkey
-  subkey-made e = ap (each (lastKey (length m))) e
+  subkey-made I e = λ i. each (lastKey (sym (I .size) i)) (e i)
 
-  -- the outputs of the first k calls are the run's
-  module _ (j k : ℕ) (l : j ≤ n) (h : n + 1 + j ≤ k) where
+  -- CMAC's call for block j, of the outputs before it
+  module _ (j : ℕ) where
     abbrev f : ℕ → Shares
-    f = outputs encryption R M k
+    f = outputs encryption R M (placeOf J (mac j) - 1)
 
-    known : (i : ℕ) → 1 ≤ i → i ≤ n + 1 + j → out i ≡ f i
-    known i p q = sym (output-at encryption R M k i p (omega arith))
+    known : (k : ℕ) → 1 ≤ k → k < placeOf J (mac j) → out k ≡ f k
+    known k p q = sym (output-at encryption R M (placeOf J (mac j) - 1) k p (omega arith))
 
-    blocks-known : (i : ℕ) → i ≤ n → macBlock x m out i ≡ macBlock x m f i
-    unfolding macBlock
-    blocks-known zero q = refl
-    blocks-known (suc i) q = ap (textBlock m i) (known (1 + i) (omega arith) (omega arith))
-
-    chain-known : (i : ℕ) → i ≤ j → chain x m out i ≡ chain x m f i
-    unfolding chain
-    chain-known zero q = refl
-    chain-known (suc i) q = known (n + 2 + i) (omega arith) (omega arith)
-
-    subkey-known : subkey x m out ≡ subkey x m f
+    subkey-known : subkey J out ≡ subkey J f
     unfolding subkey
-    subkey-known = ap (each (lastKey (length m))) (known (n + 1) (omega arith) (omega arith))
+    subkey-known = ap (each (lastKey (J .size))) (known (placeOf J sub) (omega arith) (omega arith))
 
-    -- block j goes in with the chain before it; the last one with its subkey too
-    pub chain-in : j < n → add (chain x m out j) (macBlock x m out j) ≡ inputFrom x m (mac j) f
-    unfolding inputFrom
-    chain-in q = rw (ne-eqb j n (λ e. omega arith)) (ap₂ add (chain-known j (omega arith)) (blocks-known j l))
+  chain-known : (j : ℕ) → chain J out j ≡ chain J (f j) j
+  unfolding chain
+  chain-known zero = refl
+  chain-known (suc j) = known (suc j) (placeOf J (mac j)) (omega arith) (omega arith)
 
-    pub last-in : j ≡ n → add (chain x m out j) (add (subkey x m out) (macBlock x m out j)) ≡ inputFrom x m (mac j) f
-    unfolding inputFrom
-    last-in q = rw (eq-eqb j n q) (ap₂ add (chain-known j (omega arith)) (ap₂ add subkey-known (blocks-known j l)))
+  -- its block, with the output shares in o
+  pub block-held : {n s z : ℕ} → IsJob J n s z → (m o : List ℕ) → BlocksHold J M m o → (j : ℕ) → j ≤ count J
+      → blockShares n s m o j ≡ macBlock J (f j) j
+  unfolding macBlock
+  block-held I m o H zero l = sym (λ i. only (counterBlock (I .number i) (I .sequence i) 0))
+  block-held I m o H (suc j) l = H j l
+
+  -- block j goes in with the chain before it; the last one with its subkey too
+  pub chain-in : (j : ℕ) → j < count J → add (chain J out j) (macBlock J (f j) j) ≡ inputFrom J (mac j) (f j)
+  unfolding inputFrom
+  chain-in j q = rw (ne-eqb j (count J) (λ e. omega arith)) (ap (λ (s : Shares). add s (macBlock J (f j) j)) (chain-known j))
+
+  pub last-in : add (chain J out (count J)) (add (subkey J out) (macBlock J (f (count J)) (count J))) ≡ inputFrom J (mac (count J)) (f (count J))
+  unfolding inputFrom
+  last-in =
+      rw (eq-eqb (count J) (count J) refl)
+      (ap₂ (λ (s k : Shares). add s (add k (macBlock J (f (count J)) (count J)))) (chain-known (count J)) (subkey-known (count J)))
+
+-- ---- in a sealing the output shares that CTR's calls left are those that its blocks are made of
+
+pub sealing-held : (M : Reader) (ke km : List ℕ) (n s : ℕ) (m o : List ℕ) → let J = sealingJob ke km n s m in
+    OutsHold J M (count J) o → BlocksHold J M m o
+sealing-held M ke km n s m o H j l =
+    let J : Job = sealingJob ke km n s m in
+    ap (textBlock m j) (H .hold j l ∙ sym (output-at encryption (jobCalls J) M (placeOf J (mac (suc j)) - 1) (placeOf J (ctr j))
+    (omega arith) (omega arith)))

@@ -1,2 +1,2 @@
-pub mod Sealed
 pub mod Answers
+pub mod Sealed

@@ -1,17 +1,17 @@
 -- What a record of plain sealing holds: of any form that a record can have, over any functions that make blocks of blocks. Past it the
 -- output is as it was. Assumes nothing.
-use Rattle.prelude.proofs.{_≡_, sym, ap, _∙_, List, ℕ, _+_, _^_, _≤_, _<_, arith, eqb, length, length-take-le}
-use Rattle.prelude.proofs.{eqb-true, not-false, ltb-false}
+use Rattle.prelude.proofs.{_≡_, sym, ap, _∙_, List, ℕ, _+_, _^_, _≤_, _<_, arith, length, length-take-le}
 use Rattle.blocks.specs.Bytes.{Bytes, Block, MakesBlocks, part}
 use Rattle.blocks.proofs.{Xor.bytes-append, Parts.part-length, Parts.part-bytes}
 use Rattle.answers.specs.Answer.{Accepts, Kept}
-use Rattle.answers.proofs.{First.accepts-none, First.done-none, Output.output-kept}
+use Rattle.answers.proofs.{First.accepts-none, Output.output-kept}
 use Rattle.modes.proofs.{Ctr.ctr-length, Ctr.ctr-bytes, Ctr.ctr-ctr, Cmac.cmac-block}
 use Rattle.links.specs.Record.{Proper, numberSize, recordSize, counterBlock, linkIn, sequenceIn, textIn, tagIn}
 use Rattle.links.specs.declared.Form.{Form}
 use Rattle.links.proofs.Record.{counter-block, record-length, link-in, sequence-in, text-in, tag-in}
 use Rattle.plain.specs.Plain.{crypted, authenticated, macOf, tagOf, plainRecord}
-use Rattle.plain.specs.Entry.{plainKeys, plainCauses, plainAnswer, plainOutput}
+use Rattle.plain.specs.Entry.{plainCauses, plainAnswer, plainOutput}
+use Rattle.plain.proofs.Answers.{plain-done, plain-sealable}
 
 -- ---- the ciphertext
 
@@ -85,9 +85,10 @@ pub plain-kept : (f : Form) → Proper f → (C : List ℕ → List ℕ → List
 unfolding plainAnswer
 plain-kept f P C M keys n s m o bk b a =
     let none = accepts-none (plainCauses f keys s m (length o)) _ tt a in
-    let size = eqb-true (length keys) plainKeys (not-false (eqb (length keys) plainKeys) (none .0)) in
+    let S = plain-sealable f keys s m (length o) none in
+    let size = S .keyed in
     let key : (p : ℕ) → p + 16 ≤ length keys → Block (part p 16 keys) =
     λ p h. record { size = part-length p 16 keys h; bytes = part-bytes p 16 keys bk } in
-    output-kept (done-none (plainCauses f keys s m (length o)) _ none) _ o _
+    output-kept (plain-done f keys s m (length o) none) _ o _
     (plain-length f P _ _ (M _ (key 0 (omega arith))) (M _ (key 16 (omega arith))) n s m b)
-    (ltb-false (length o) (recordSize f (length m)) (none .1 .1 .1 .1 .0))
+    (S .room)

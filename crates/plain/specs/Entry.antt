@@ -5,23 +5,14 @@ use Prim.Native.Nat.{ℕ}
 use lib.Dec.{eqb, ltb}
 use lib.ListN.{length}
 use Rattle.blocks.specs.Bytes.{part}
-use Rattle.answers.specs.Answer.{Answer, done, refused, Cause, _when_, first, output}
+use Rattle.answers.specs.Answer.{Answer, done, Cause, _when_, first, output}
 use Rattle.links.specs.Record.{longest, recordSize, greatest}
 use Rattle.links.specs.declared.Form.{Form}
-use Rattle.plain.specs.declared.PlainAnswer.{PlainAnswer}
-use Rattle.plain.specs.declared.PlainAnswer.the-variants.{Sealed, BadKeys, BadSequence, LongMessage, ShortOutput}
 use Rattle.plain.specs.Plain.{plainRecord}
 
 -- the bytes of key material: KE, then KM
 abbrev pub plainKeys : ℕ
 plainKeys = 32
-
-abbrev pub plainSays : PlainAnswer → Answer
-plainSays (Sealed n) = done (n ∷ [])
-plainSays BadKeys = refused 1
-plainSays BadSequence = refused 10
-plainSays LongMessage = refused 2
-plainSays ShortOutput = refused 4
 
 -- sealing the message m under the given keys and the sequence number s, with room for o bytes
 abbrev pub plainCauses : Form → List ℕ → ℕ → List ℕ → ℕ → List Cause

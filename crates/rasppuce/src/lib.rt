@@ -117,7 +117,7 @@ pub extern "C" fn rasppuce_seal_plain(
     ensures { λ r. ⌜ now (out .exit)
         ≡ plainOutput (formOf (told wide)) encrypt (now (keys .entry)) number sequence (now (message .entry)) (now (out .entry)) ⌝ }
 {
-    plain::seal(keys, number, wide, sequence, message, out).number()
+    plain_sealing::seal(keys, number, wide, sequence, message, out).number()
 }
 
 // ---- the calls on a receiving link

@@ -9,9 +9,10 @@ use Rattle.baksheesh.proofs.Inverse.{encrypt-block}
 use Rattle.links.specs.{Record.recordSize, Record.usable, declared.Form.Form}
 use Rattle.links.proofs.Widths.{proper}
 use Rattle.layout.specs.Keyed.{SaysKeyed}
-use Rattle.opening.specs.Open.{messageSize, openCauses, openAnswer, accepting}
-use Rattle.opening.specs.{Exactly.Sealed, Receivers.receiverForm, declared.Receiver.Receiver}
+use Rattle.opening.specs.{Opener.Opener, Open.messageSize, Open.openCauses, Open.openAnswer, Exactly.Sealed}
 use Rattle.opening.proofs.Exactly as Exactly
+use Rattle.receiver.specs.Receivers.{openerOf, receiverAs, receiverForm, receiverAfter}
+use Rattle.receiver.specs.declared.Receiver.{Receiver}
 use Rattle.receiving.specs.Stored.{receiverIn, receiverBytes}
 use Rattle.receiving.specs.Calls.{receiverKeying, keyedReceiver, openedAnswer, openedLink, openedOutput}
 use Rattle.receiving.proofs.Stored.{receiver-storable, receiver-keyed-exactly}
@@ -31,20 +32,22 @@ module _ (link : List ℕ) (b : Bytes link) where
   -- sealing makes for this link with a number that its window admits
   pub stored-accepts-exactly : (r o : List ℕ) → Bytes r → Accepts (openedAnswer link r (length o))
       ↔ ((usable f (x .keyed) (x .window .highest) ≡ true) × (length r ≤ recordSize f (length o))
-      × ((m : List ℕ) × (s : ℕ) × Sealed f encrypt x r m s))
-  stored-accepts-exactly = Exactly.accepts-exactly f (proper (x .width)) encrypt makes x (receiver-storable link b .formed)
+      × ((m : List ℕ) × (s : ℕ) × Sealed f encrypt (openerOf x) r m s))
+  stored-accepts-exactly = Exactly.accepts-exactly f (proper (x .width)) encrypt makes (openerOf x) (receiver-storable link b .formed)
 
   -- and then the message is written, and the link's bytes are those of the link whose window has that number
   pub stored-opened-exactly : (r o m : List ℕ) (s : ℕ) → usable f (x .keyed) (x .window .highest) ≡ true
-      → length r ≤ recordSize f (length o) → Sealed f encrypt x r m s
-      → (openedOutput link r o ≡ put 0 m o) × (openedLink link r (length o) ≡ receiverBytes (accepting x s))
+      → length r ≤ recordSize f (length o) → Sealed f encrypt (openerOf x) r m s
+      → (openedOutput link r o ≡ put 0 m o) × (openedLink link r (length o) ≡ receiverBytes (receiverAfter x s))
   stored-opened-exactly r o m s keyed room S =
-      let O = Exactly.opened-exactly f (proper (x .width)) encrypt makes x (receiver-storable link b .formed) r o m s keyed room S in
-      (O .out, sym (if-done (O .answer) _ link) ∙ ap receiverBytes (if-done (O .answer) _ x ∙ O .link))
+      let F = receiver-storable link b .formed in
+      let O = Exactly.opened-exactly f (proper (x .width)) encrypt makes (openerOf x) F r o m s keyed room S in
+      let e = if-done (O .answer) _ (openerOf x) ∙ O .link in
+      (O .out, sym (if-done (O .answer) _ link) ∙ ap (λ (y : Opener). receiverBytes (receiverAs (x .width) y)) e)
 
   -- past the message the output is as it was
   pub stored-opened-kept : (r o : List ℕ) → Accepts (openedAnswer link r (length o)) → Kept (messageSize f r) o (openedOutput link r o)
-  stored-opened-kept = Exactly.opened-kept f (proper (x .width)) encrypt makes x (receiver-storable link b .formed)
+  stored-opened-kept = Exactly.opened-kept f (proper (x .width)) encrypt makes (openerOf x) (receiver-storable link b .formed)
 
 -- ---- opening refuses under 20 exactly where the bytes do not say a link that counts as keyed
 
@@ -52,14 +55,14 @@ pub open-unkeyed-exactly : (link r : List ℕ) (o : ℕ) → Bytes link → open
 unfolding openAnswer
 open-unkeyed-exactly link r o b =
     let x = receiverIn link in
-    Iff·trans (refused-here 20 _ (drop 1 (openCauses (receiverForm x) encrypt x r o)) _ refl)
+    Iff·trans (refused-here 20 _ (drop 1 (openCauses (receiverForm x) encrypt (openerOf x) r o)) _ refl)
     (fails-exactly _ (receiver-keyed-exactly link b))
 
 -- ---- a refusal changes no byte
 
 pub open-unchanged : (link r o : List ℕ) (n : ℕ) → openedAnswer link r (length o) ≡ refused n
     → (openedLink link r (length o) ≡ link) × (openedOutput link r o ≡ o)
-open-unchanged link r o n e = (sym (if-refused e _ link), Exactly.refused-unchanged _ encrypt (receiverIn link) r o n e .1)
+open-unchanged link r o n e = (sym (if-refused e _ link), Exactly.refused-unchanged _ encrypt (openerOf (receiverIn link)) r o n e .1)
 
 pub receiver-unchanged : (link : List ℕ) (number wide : ℕ) (keys : List ℕ) (n : ℕ) → receiverKeying link keys ≡ refused n
     → keyedReceiver link number wide keys ≡ link

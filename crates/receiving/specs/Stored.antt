@@ -6,9 +6,10 @@ use Rattle.blocks.specs.Bytes.{bigEndian, value, part}
 use Rattle.links.specs.declared.Width.{Width}
 use Rattle.layout.specs.Layout.{lastSize, keysAt, linkSize, linkBytes, keyedIn, numberIn, lastIn, keysIn}
 use Rattle.layout.specs.Layout.{widthByte, widthIn, sound}
-use Rattle.opening.specs.Receivers.{receiverKeys, freshReceiver}
+use Rattle.opening.specs.Opener.{receiverKeys}
 use Rattle.opening.specs.Exactly.{Formed}
-use Rattle.opening.specs.declared.Receiver.{Receiver}
+use Rattle.receiver.specs.Receivers.{openerOf, freshReceiver}
+use Rattle.receiver.specs.declared.Receiver.{Receiver}
 
 -- the bytes of the window's word; where it and the width stand, the link's tail
 abbrev pub wordSize : ℕ
@@ -48,6 +49,6 @@ receiverBytes x =
 
 -- a link that bytes can say
 pub record Storable (x : Receiver) : Type 0 where
-  pub formed : Formed x
+  pub formed : Formed (openerOf x)
   pub highest : x .window .highest < 256 ^ lastSize
   pub word : x .window .accepted < 256 ^ wordSize

@@ -1,6 +1,6 @@
 // The calls on a receiving link in its bytes: each returns 0 or the refusal's number.
 use links::Width;
-use opening::Receiver;
+use receiver::Receiver;
 use window::Window;
 ghost use mathlib.Core.Path.{_≡_};
 ghost use lib.ListN.{length};
@@ -63,7 +63,17 @@ pub fn key(link: &mut [u8], number: u32, wide: u32, keys: &[u8]) -> u32
     ensures { λ r. ⌜ r ≡ numberOf (receiverKeying (now (link .entry)) (now (keys .entry))) ⌝ }
     ensures { λ r. ⌜ now (link .exit) ≡ keyedReceiver (now (link .entry)) number wide (now (keys .entry)) ⌝ }
 {
-    layout::key(link, number, keys, 32, &tail_of(0, Width::told(wide)))
+    if link.len() != SIZE {
+        return 1;
+    }
+    let keying = Receiver::fresh().key(number, wide, keys);
+    let answer = keying.answer;
+    let n = answer.number();
+    if n == 0 {
+        let keyed = keying.link;
+        store(keyed, link);
+    }
+    n
 }
 
 // Opens a record.

@@ -1,6 +1,6 @@
 // Plain sealing and opening: records, the messages that they open to, and refusals.
-use opening::OpenAnswer;
-use opening::Receiver;
+use receiver::OpenAnswer;
+use receiver::Receiver;
 use window::Window;
 ghost use Prim.Native.Nat.{_≤_, _<_};
 ghost use lib.ListN.{length};
@@ -9,7 +9,7 @@ const NUMBER: u32 = 0x01020304;
 
 // Prints the number that sealing gives.
 fn try_seal(what: &[u8], keys: &[u8], wide: u32, sequence: u64, message: &[u8], out: &mut [u8]) {
-    let answer = plain::seal(keys, NUMBER, wide, sequence, message, out);
+    let answer = plain_sealing::seal(keys, NUMBER, wide, sequence, message, out);
     show::tried(what, answer.number() as u64);
 }
 
@@ -70,7 +70,7 @@ fn seal_and_open(
     message: &[u8],
     out: &mut [u8],
 ) -> Receiver {
-    plain::seal(keys, NUMBER, wide, sequence, message, out);
+    plain_sealing::seal(keys, NUMBER, wide, sequence, message, out);
     show::word(b"seal ");
     show::number(message.len() as u64);
     show::bytes(out);
@@ -152,7 +152,7 @@ fn tenth(link: Receiver, keys: &[u8], message: &[u8]) -> Receiver {
 fn open_number(link: Receiver, keys: &[u8], message: &[u8], sequence: u64) -> Receiver {
     let mut record = [0u8; 41];
     let mut out = [0u8; 17];
-    plain::seal(keys, NUMBER, 0, sequence, message, &mut record);
+    plain_sealing::seal(keys, NUMBER, 0, sequence, message, &mut record);
     let opening = link.open(&record, &mut out);
     let answer = opening.answer;
     show::word(b"open ");
@@ -204,8 +204,8 @@ fn refused_widths(keys: &[u8], message: &[u8]) {
     try_seal(b"seal wide 0 ", keys, 1, 0, message, &mut wide_record);
     try_open(b"open 27 bytes ", wide, &[0; 27], &mut out);
     try_open(b"open 285 bytes ", wide, &[0; 285], &mut out);
-    plain::seal(keys, NUMBER, 0, 4294967295, message, &mut narrow_record);
-    plain::seal(keys, NUMBER, 1, 4294967296, message, &mut wide_record);
+    plain_sealing::seal(keys, NUMBER, 0, 4294967295, message, &mut narrow_record);
+    plain_sealing::seal(keys, NUMBER, 1, 4294967296, message, &mut wide_record);
     try_open(b"open narrow record ", wide, &narrow_record, &mut out);
     try_open(b"open wide record ", narrow, &wide_record, &mut out);
     try_open(

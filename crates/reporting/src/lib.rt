@@ -1,14 +1,16 @@
 // The lane report: a lane of the sealing that a link would do next.
-use links::LONGEST;
 use links::Sender;
-use links::usable;
 use outgoing::lane_of;
 use path::call_count;
 use path::run;
-use path::tape_need;
-use runs::Watch;
-use runs::within;
+use sealable::InputRefusal;
+use sealable::InputTest;
+use sealable::test_inputs;
 use shares::PAIRS;
+use walks::LaneRefusal;
+use walks::LaneTest;
+use walks::Watch;
+use walks::test_lane;
 ghost use mathlib.Core.Path.{_≡_};
 ghost use lib.ListN.{length};
 ghost use Rattle.answers.specs.Answer.{numberOf};
@@ -17,14 +19,8 @@ ghost use Rattle.reporting.specs.Says.{reportSays};
 
 pub enum ReportAnswer {
     Shown,
-    NotKeyed,
-    NumbersUsed,
-    LongMessage,
-    ShortTape,
-    BadCall,
-    BadRound,
-    BadLane,
-    ShortOutput,
+    Inputs(InputRefusal),
+    Lane(LaneRefusal),
 }
 
 impl ReportAnswer {
@@ -34,14 +30,8 @@ impl ReportAnswer {
     {
         match self {
             ReportAnswer::Shown => 0,
-            ReportAnswer::NotKeyed => 20,
-            ReportAnswer::NumbersUsed => 21,
-            ReportAnswer::LongMessage => 2,
-            ReportAnswer::ShortTape => 3,
-            ReportAnswer::BadCall => 6,
-            ReportAnswer::BadRound => 33,
-            ReportAnswer::BadLane => 34,
-            ReportAnswer::ShortOutput => 4,
+            ReportAnswer::Inputs(why) => why.number(),
+            ReportAnswer::Lane(why) => why.number(),
         }
     }
 }
@@ -61,39 +51,32 @@ pub fn report(
     ensures { λ r. ⌜ now (out .exit)
         ≡ reportOutput link (now (message .entry)) (now (tape .entry)) call round lane (now (out .entry)) ⌝ }
 {
-    let width = link.width;
-    if !usable(link.keyed, width, link.last) {
-        return ReportAnswer::NotKeyed;
+    let inputs = test_inputs(link, message, tape);
+    if let InputTest::Refused(why) = inputs {
+        return ReportAnswer::Inputs(why);
     }
-    if link.last == width.greatest() {
-        return ReportAnswer::NumbersUsed;
+    let calls = call_count(message.len());
+    let tested = test_lane(calls, PAIRS, call, round, lane, out.len());
+    if let LaneTest::Refused(why) = tested {
+        return ReportAnswer::Lane(why);
     }
-    let n = message.len();
-    if LONGEST < n {
-        return ReportAnswer::LongMessage;
-    }
-    if tape.len() < tape_need(n) {
-        return ReportAnswer::ShortTape;
-    }
-    let calls = call_count(n);
-    if !within(1, calls, call) {
-        return ReportAnswer::BadCall;
-    }
-    if !within(1, PAIRS, round) {
-        return ReportAnswer::BadRound;
-    }
-    if !within(0, 2, lane) {
-        return ReportAnswer::BadLane;
-    }
-    if out.len() < 48 {
-        return ReportAnswer::ShortOutput;
-    }
+    let ke = link.ke;
+    let km = link.km;
     let mut outs = [0u8; 768];
     let watch = Watch {
         call: call as usize,
         pair: round as usize,
     };
-    let w = run(link, message, tape, watch, &mut outs);
+    let w = run(
+        link.number,
+        link.last + 1,
+        ke,
+        km,
+        message,
+        tape,
+        watch,
+        &mut outs,
+    );
     let seen = w.seen;
     blocks::put_bytes(&lane_of(seen, lane), out, 0);
     ReportAnswer::Shown

@@ -1,4 +1,4 @@
 pub mod Run
 pub mod OneTape
-pub mod Walking
 pub mod Lanes
+pub mod Reported

@@ -32,6 +32,6 @@ module _ {D : Stages} (W : StageBlocks D) (k : ℕ) (l : 1 ≤ k) where
       → ExactlyOne (Shows (laneMask (R .keyAt k) i) (R .begins k + pairSize * (r - 1)) t (laneOf D R (at t) k r i) every
       (λ w. laneOf D Q (at w) k r i))
   one-tape-run T {R} L B L′ B′ ea eo r t bt fit i =
-      one-accepted (lane-masked L B _ _ refl refl r (at t) i) (λ w d. tt) (λ w bw A. lane-masked L′ B′ _ _ ea eo r (at w) i)
+      one-accepted (lane-masked L B _ _ refl refl r (at t) i) (λ w bw d. tt) (λ w bw A. lane-masked L′ B′ _ _ ea eo r (at w) i)
       (one-tape W T (L .keys-before k k) (masked L B (R .keyAt k) (R .begins k) refl refl) (masked L′ B′ (R .keyAt k) (R .begins k) ea eo)
       (r - 1) t bt fit i)

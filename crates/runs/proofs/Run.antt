@@ -22,6 +22,11 @@ pub record RunBlocks (R : Run) : Type 0 where
   pub given-blocks : (k : ℕ) → Blocks (R .given k)
   pub input-blocks : (k : ℕ) (f : ℕ → Shares) → ((j : ℕ) → Blocks (f j)) → Blocks (R .input k f)
 
+-- their inputs join to plain ones, where the outputs before them join to what the plain cipher P makes of these
+abbrev pub InputsJoin : Stages → Run → PlainStages → (ℕ → List ℕ) → Type 0
+InputsJoin D R P plain = (k : ℕ) → 1 ≤ k → k ≤ R .count → (f : ℕ → Shares) → ((j : ℕ) → Blocks (f j))
+    → ((j : ℕ) → 1 ≤ j → j < k → join (f j) ≡ plainAfter P (join (R .given j)) (plain j) (D .count)) → join (R .input k f) ≡ plain k
+
 cond-blocks : (t : Bool) {s u : Shares} → Blocks s → Blocks u → Blocks (cond t s u)
 cond-blocks true p q = p
 cond-blocks false p q = q
@@ -109,12 +114,9 @@ module _ {D : Stages} {R : Run} (L : Placed D R) where
     output-blocks k l h =
         call-blocks W M (R .begins k) (key-blocks k _ (omega arith) h) (input-blocks k _ l (omega arith) h) h
 
-    -- ---- joined: the calls' inputs join to plain inputs if each does once the outputs before it join to plain outputs
+    -- ---- joined
 
-    module _ {P : PlainStages} (J : StageJoins D P) (plain : ℕ → List ℕ)
-        (joins : (k : ℕ) → 1 ≤ k → k ≤ R .count → (f : ℕ → Shares) → ((j : ℕ) → Blocks (f j))
-        → ((j : ℕ) → 1 ≤ j → j < k → join (f j) ≡ plainAfter P (join (R .given j)) (plain j) (D .count)) → join (R .input k f)
-        ≡ plain k) where
+    module _ {P : PlainStages} (J : StageJoins D P) (plain : ℕ → List ℕ) (joins : InputsJoin D R P plain) where
       -- the plain output of call k
       abbrev plainOut : ℕ → List ℕ
       plainOut k = plainAfter P (join (R .given k)) (plain k) (D .count)

@@ -1,3 +1,3 @@
 pub mod Run
-pub mod Walk
 pub mod Lanes
+pub mod Reported

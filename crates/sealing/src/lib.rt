@@ -1,12 +1,12 @@
 // Shared sealing.
-use links::LONGEST;
 use links::Sender;
-use links::usable;
 use outgoing::put_record;
 use path::run;
-use path::tape_need;
-use runs::Watch;
+use sealable::InputRefusal;
+use sealable::InputTest;
+use sealable::test_inputs;
 use shares::unpack_shares;
+use walks::Watch;
 ghost use mathlib.Core.Path.{_≡_};
 ghost use lib.ListN.{length, replicate};
 ghost use Rattle.answers.specs.Answer.{numberOf};
@@ -16,10 +16,7 @@ ghost use Rattle.sealing.specs.Says.{sealSays};
 pub enum SealAnswer {
     // The length written, and the tape bytes read.
     Sealed { len: usize, used: usize },
-    NotKeyed,
-    NumbersUsed,
-    LongMessage,
-    ShortTape,
+    Inputs(InputRefusal),
     ShortOutput,
 }
 
@@ -30,10 +27,7 @@ impl SealAnswer {
     {
         match self {
             SealAnswer::Sealed { len: _, used: _ } => 0,
-            SealAnswer::NotKeyed => 20,
-            SealAnswer::NumbersUsed => 21,
-            SealAnswer::LongMessage => 2,
-            SealAnswer::ShortTape => 3,
+            SealAnswer::Inputs(why) => why.number(),
             SealAnswer::ShortOutput => 4,
         }
     }
@@ -64,32 +58,33 @@ pub fn seal(link: Sender, message: &[u8], tape: &[u8], out: &mut [u8]) -> Sealin
     ensures { λ r. ⌜ r .shares ≡ sealShares link (now (message .entry)) (now (tape .entry)) (length (now (out .entry))) ⌝ }
     ensures { λ r. ⌜ now (out .exit) ≡ sealOutput link (now (message .entry)) (now (tape .entry)) (now (out .entry)) ⌝ }
 {
+    let tested = test_inputs(link, message, tape);
+    if let InputTest::Refused(why) = tested {
+        return refused(link, SealAnswer::Inputs(why));
+    }
     let width = link.width;
-    if !usable(link.keyed, width, link.last) {
-        return refused(link, SealAnswer::NotKeyed);
-    }
-    if link.last == width.greatest() {
-        return refused(link, SealAnswer::NumbersUsed);
-    }
-    let n = message.len();
-    if LONGEST < n {
-        return refused(link, SealAnswer::LongMessage);
-    }
-    let need = tape_need(n);
-    if tape.len() < need {
-        return refused(link, SealAnswer::ShortTape);
-    }
     let form = width.form();
-    let len = n + form.added();
+    let len = message.len() + form.added();
     if out.len() < len {
         return refused(link, SealAnswer::ShortOutput);
     }
+    let sequence = link.last + 1;
+    let ke = link.ke;
+    let km = link.km;
     let mut outs = [0u8; 768];
     let watch = Watch { call: 1, pair: 1 };
-    let w = run(link, message, tape, watch, &mut outs);
+    let w = run(
+        link.number,
+        sequence,
+        ke,
+        km,
+        message,
+        tape,
+        watch,
+        &mut outs,
+    );
     let tag = w.out;
     let shares = unpack_shares(tag);
-    let sequence = link.last + 1;
     put_record(form, link.number, sequence, message, &outs, shares, out);
     let mut next = link;
     next.last = sequence;

@@ -1,32 +1,30 @@
 -- An accepted call of sealing is an accepted sealing on the link that its bytes say. Assumes nothing.
 use Rattle.prelude.proofs.{List, [], ℕ, _≤_, length, ltb-false, le-ltb}
-use Rattle.answers.specs.Answer.{Accepts, NoneOf}
-use Rattle.answers.proofs.First.{accepts-none, none-accepts}
+use Rattle.answers.specs.Answer.{Accepts}
+use Rattle.answers.proofs.First.{accepts-none, none-accepts, none-append, none-parts}
+use Rattle.links.specs.declared.Sender.{Sender}
 use Rattle.calls.specs.{Entry.sealCauses, Entry.sealAnswer, Demand.Accepted, Demand.AcceptedSealing}
-use Rattle.sending.specs.Calls.{sharesSize, sealedCauses, sealedAnswer}
+use Rattle.sending.specs.Calls.{sharesSize, sliceCauses, sealedCauses, sealedAnswer}
 use Rattle.sending.specs.{Stored.senderIn, Demand.StoredSealing}
 use Rattle.sending.proofs.Stored.{sender-formed}
 
 -- ---- sealing is accepted exactly where it is on the link that the bytes say, with room for shares and count
 
 module _ (link m t : List ℕ) (o s : ℕ) where
-  none-of : Accepted (senderIn link) m t o → sharesSize ≤ s → NoneOf (sealedCauses link m t o s)
-  unfolding sealAnswer
-  none-of A h =
-      let n = accepts-none (sealCauses (senderIn link) m t o) _ tt A in
-      (n .0, (n .1 .0, (n .1 .1 .0, (n .1 .1 .1 .0, (n .1 .1 .1 .1 .0, (le-ltb s sharesSize h, tt))))))
+  abbrev x : Sender
+  x = senderIn link
 
-  pub call-accepted : Accepted (senderIn link) m t o → sharesSize ≤ s → Accepts (sealedAnswer link m t o s)
-  unfolding sealedAnswer
-  call-accepted A h = none-accepts (sealedCauses link m t o s) [] (none-of A h)
+  pub call-accepted : Accepted x m t o → sharesSize ≤ s → Accepts (sealedAnswer link m t o s)
+  unfolding sealedAnswer sealAnswer
+  call-accepted A h =
+      none-accepts (sealedCauses link m t o s) []
+      (none-append (sealCauses x m t o) (sliceCauses s) (accepts-none (sealCauses x m t o) _ tt A) (le-ltb s sharesSize h, tt))
 
-  pub accepted-call : Accepts (sealedAnswer link m t o s) → Accepted (senderIn link) m t o × (sharesSize ≤ s)
+  pub accepted-call : Accepts (sealedAnswer link m t o s) → Accepted x m t o × (sharesSize ≤ s)
   unfolding sealedAnswer sealAnswer
   accepted-call A =
-      let n = accepts-none (sealedCauses link m t o s) [] tt A in (
-        none-accepts (sealCauses (senderIn link) m t o) _ (n .0, (n .1 .0, (n .1 .1 .0, (n .1 .1 .1 .0, (n .1 .1 .1 .1 .0, tt))))),
-        ltb-false s sharesSize (n .1 .1 .1 .1 .1 .0),
-      )
+      let n = none-parts (sealCauses x m t o) (sliceCauses s) (accepts-none (sealedCauses link m t o s) [] tt A) in
+      (none-accepts (sealCauses x m t o) _ (n .0), ltb-false s sharesSize (n .1 .0))
 
 -- the sealing on the link that the bytes say
 abbrev pub said : StoredSealing → AcceptedSealing

@@ -1,69 +1,64 @@
 -- Probe-proof at the calls: the three statements on links in their bytes, with the tag's shares and the tape count out of the second slice.
 -- Assumes nothing.
-use Rattle.prelude.proofs.{_≡_, sym, ap, _∙_, List, _++_, append-assoc, ℕ, _+_, _-_, _*_, _%_, _≤_, _<_, arith, length, take, take-at}
+use Rattle.prelude.proofs.{_≡_, refl, sym, ap, _∙_, List, _++_, append-assoc, ℕ, _+_, _*_, _%_, _≤_, _<_, min, arith, length, take, take-at}
 use Rattle.prelude.proofs.{drop-at}
-use Rattle.blocks.specs.Bytes.{_⊕_, bigEndian, part, put, blockCount}
+use Rattle.blocks.specs.Bytes.{bigEndian, part, put, blockCount}
 use Rattle.blocks.proofs.{Numbers.bigEndian-length, Parts.part-take, Parts.put-start}
 use Rattle.answers.proofs.First.{if-done}
-use Rattle.baksheesh.specs.Baksheesh.{rounds}
-use Rattle.masking.specs.Shares.{isFirst, flat, at, masksAt}
-use Rattle.masking.specs.{Call.pairCount, OneTape.ExactlyOne, OneTape.roundOnLane}
-use Rattle.calls.specs.{Numbered.callCount, Numbered.tapeNeed, Sealed.tagShares, Entry.indexOf, Entry.sealShares}
-use Rattle.calls.specs.Demand.{masksOf, SameLane, Joined, OwnKeys, OutputJoined}
-use Rattle.calls.proofs.Lanes.{returned, tag-size}
+use Rattle.baksheesh.specs.Baksheesh.{rounds, rotated}
+use Rattle.links.specs.declared.Sender.{Sender}
+use Rattle.masking.specs.{Shares.flat, Shares.at, Call.encryption, Call.pairCount, OneTape.ExactlyOne, OneTape.roundOnLane}
+use Rattle.masking.proofs.Encryption.{encryption-blocks, encryption-turns}
+use Rattle.runs.specs.Reported.{SameLane, Joined, OwnKeys, OnLaneAlone, ShownByLanes}
+use Rattle.runs.proofs.Reported.{ShowsLanes, shows-less, exactly-one}
+use Rattle.calls.specs.{Numbered.ctrFirst, Numbered.callOf, Numbered.callCount, Numbered.ofKey, Numbered.keyAt, Numbered.tapeNeed}
+use Rattle.calls.specs.{Sealed.tagShares, Entry.sealShares, Plain.plainState, Plain.plainKey, Plain.plainOutput}
+use Rattle.calls.specs.Demand.{joinedKE, joinedKM, plainText, sealingCall}
+use Rattle.calls.proofs.Lanes.{can-seal, returned, accepted-with, tag-size}
+use Rattle.calls.proofs.Lanes as Lanes
 use Rattle.calls.proofs.ProbeProof as Value
-use Rattle.sending.specs.{Stored.senderIn, Calls.countSize, Calls.sharesSize, Calls.sharesOutput}
-use Rattle.sending.specs.Demand.{StoredSealing, shownWith, StoredSameLane}
+use Rattle.sending.specs.{Stored.senderIn, Calls.countSize, Calls.sharesOutput}
+use Rattle.sending.specs.Demand.{StoredSealing, shownWith, storedReported}
 use Rattle.sending.proofs.{Accepted.call-accepted, Accepted.accepted-call, Accepted.said, Right.is-done}
+
+-- a call that returns 0 shows the lanes of its sealing
+shows : (S : StoredSealing) → ShowsLanes encryption (storedReported S)
+shows S = shows-less (Lanes.shows (said S)) _ (λ w A. accepted-call (S .link) (S .message) w (length (S .out)) (length (S .shares)) A .0)
 
 -- two calls of sealing that return 0, with messages of one length; any lane of any round of any call: exactly one tape, differing from
 -- the first's only in that round's 32 mask bytes and the lane's 16 key mask bytes, makes the report of the second show the same lane
 pub stored-fits-every-key : (S T : StoredSealing) → length (S .message) ≡ length (T .message)
     → (k r i : ℕ) → 1 ≤ k → k ≤ callCount (blockCount (length (S .message))) → 1 ≤ r → r ≤ pairCount → i < 3
-    → ExactlyOne (StoredSameLane S T k r i)
-stored-fits-every-key S T e k r i k₁ kₙ r₁ rₙ l = record {
-  one = tape .one;
-  holds = stored (tape .one) (tape .holds);
-  only-one = λ w H. tape .only-one w (taken w H);
-}
-  where
-    tape : ExactlyOne (SameLane (said S) (said T) k r i)
-    tape = Value.fits-every-key (said S) (said T) e k r i k₁ kₙ r₁ rₙ l
+    → ExactlyOne (SameLane (storedReported S) (storedReported T) (S .tape) k r i)
+stored-fits-every-key S T e k r i =
+    exactly-one encryption-blocks encryption-turns (shows S) (shows T) (S .tape-bytes) (S .accepted)
+    (λ w b d. call-accepted (T .link) (T .message) w (length (T .out)) (length (T .shares))
+    (accepted-with (said T) w (let long = can-seal (said S) .long in omega arith))
+    (accepted-call (T .link) (T .message) (T .tape) (length (T .out)) (length (T .shares)) (T .accepted) .1))
+    k r i (ap (λ (l : ℕ). callCount (blockCount l)) (sym e)) (ap (λ (l : ℕ). keyAt (callOf ctrFirst (blockCount l) k)) (sym e)) refl
 
-    room : sharesSize ≤ length (T .shares)
-    room = accepted-call (T .link) (T .message) (T .tape) (length (T .out)) (length (T .shares)) (T .accepted) .1
+module _ (S : StoredSealing) where
+  abbrev x : Sender
+  x = senderIn (S .link)
 
-    stored : (w : List ℕ) → SameLane (said S) (said T) k r i w → StoredSameLane S T k r i w
-    stored w H = record {
-      as-long = H .as-long;
-      all-bytes = H .all-bytes;
-      elsewhere = H .elsewhere;
-      accepted = call-accepted (T .link) (T .message) w (length (T .out)) (length (T .shares)) (H .accepted) room;
-      same = H .same;
-    }
+  abbrev m : List ℕ
+  m = S .message
 
-    taken : (w : List ℕ) → StoredSameLane S T k r i w → SameLane (said S) (said T) k r i w
-    taken w H = record {
-      as-long = H .as-long;
-      all-bytes = H .all-bytes;
-      elsewhere = H .elsewhere;
-      accepted = accepted-call (T .link) (T .message) w (length (T .out)) (length (T .shares)) (H .accepted) .0;
-      same = H .same;
-    }
+  -- the three lanes of any round of any call join to the plain cipher's state and key; those of round 36 to its output
+  pub stored-lanes-join : (k r : ℕ) → 1 ≤ k → k ≤ callCount (blockCount (length m)) → 1 ≤ r → r ≤ pairCount → let c = sealingCall m k in
+      Joined (shownWith S (S .tape) k r) (plainState (joinedKE x) (joinedKM x) (x .number) (x .last + 1) (plainText x m) c r)
+      (plainKey (joinedKE x) (joinedKM x) c r)
+  stored-lanes-join = Value.lanes-join (said S)
 
--- the three lanes of any round of any call join to the plain cipher's state and key; those of round 36 to its output
-pub stored-lanes-join : (S : StoredSealing) (k r : ℕ) → 1 ≤ k → k ≤ callCount (blockCount (length (S .message))) → 1 ≤ r → r ≤ pairCount
-    → Joined (senderIn (S .link)) (S .message) (S .tape) k r
-stored-lanes-join S = Value.lanes-join (said S)
+  -- and show the link's own three key shares, each with its mask
+  pub stored-own-keys : (k r : ℕ) → 1 ≤ k → k ≤ callCount (blockCount (length m)) → 1 ≤ r → r ≤ pairCount → let c = sealingCall m k in
+      OwnKeys (shownWith S (S .tape) k r) (rotated (min r rounds)) (ofKey (x .ke) (x .km) c) (S .tape) (ofKey 0 32 c)
+  stored-own-keys = Value.own-keys (said S)
 
--- and show the link's own three key shares, each with its mask
-pub stored-own-keys : (S : StoredSealing) (k r : ℕ) → 1 ≤ k → k ≤ callCount (blockCount (length (S .message))) → 1 ≤ r → r ≤ pairCount
-    → OwnKeys (senderIn (S .link)) (S .message) (S .tape) k r
-stored-own-keys S = Value.own-keys (said S)
-
-pub stored-output-lanes-join : (S : StoredSealing) (k : ℕ) → 1 ≤ k → k ≤ callCount (blockCount (length (S .message)))
-    → OutputJoined (senderIn (S .link)) (S .message) (S .tape) k
-stored-output-lanes-join S = Value.output-lanes-join (said S)
+  pub stored-output-lanes-join : (k : ℕ) → 1 ≤ k → k ≤ callCount (blockCount (length m)) → let c = sealingCall m k in
+      Joined (shownWith S (S .tape) k pairCount) (plainOutput (joinedKE x) (joinedKM x) (x .number) (x .last + 1) (plainText x m) c)
+      (rotated rounds (ofKey (joinedKE x) (joinedKM x) c))
+  stored-output-lanes-join = Value.output-lanes-join (said S)
 
 -- ---- the second slice
 
@@ -89,16 +84,14 @@ module _ (S : StoredSealing) where
 
 -- of the second slice's 52 bytes, each 16 are round 35 done on the report's 48 bytes of their lane of the last call, XORed with their mask
 -- of that call's last pair; they are, two by two, the state shares of round 36's lanes; and the last four are the tape bytes read
-pub stored-tag-shares : (S : StoredSealing) (i : ℕ) → i < 3 → let k = callCount (blockCount (length (S .message))) in
-    part (16 * i) 16 (sharesOutput (S .link) (S .message) (S .tape) (S .out) (S .shares))
-    ≡ roundOnLane (rounds - 1) (isFirst (indexOf i)) (shownWith S (S .tape) k rounds i)
-    ⊕ masksAt (at (S .tape)) (masksOf k pairCount) (indexOf i)
+pub stored-tag-shares : (S : StoredSealing) (i : ℕ) → i < 3
+    → OnLaneAlone encryption roundOnLane (storedReported S) (S .tape) (callCount (blockCount (length (S .message))))
+    (sharesOutput (S .link) (S .message) (S .tape) (S .out) (S .shares)) i
 stored-tag-shares S i l = share S i l ∙ Value.tag-shares (said S) i l
 
 pub stored-tag-shares-shown : (S : StoredSealing) (i : ℕ) → i < 3
-    → let s = shownWith S (S .tape) (callCount (blockCount (length (S .message)))) pairCount i in
-    let tag = sharesOutput (S .link) (S .message) (S .tape) (S .out) (S .shares) in
-    (part 0 16 s ≡ part (16 * ((i + 1) % 3)) 16 tag) × (part 16 16 s ≡ part (16 * ((i + 2) % 3)) 16 tag)
+    → ShownByLanes (shownWith S (S .tape) (callCount (blockCount (length (S .message)))) pairCount)
+    (sharesOutput (S .link) (S .message) (S .tape) (S .out) (S .shares)) i
 stored-tag-shares-shown S i l =
     let h = Value.tag-shares-shown (said S) i l in
     (h .0 ∙ sym (share S ((i + 1) % 3) (omega arith)), h .1 ∙ sym (share S ((i + 2) % 3) (omega arith)))

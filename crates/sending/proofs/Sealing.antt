@@ -3,16 +3,16 @@ use Rattle.prelude.proofs.{_≡_, refl, sym, ap, _∙_, Bool, true, false, cond
 use Rattle.prelude.proofs.{length, getD, take, drop, take-append-drop, length-take-le, take-length, drop-length, ltb-false, lt-ltb}
 use Rattle.blocks.specs.Bytes.{bigEndian, put}
 use Rattle.answers.specs.Answer.{Answer, done, refused, _when_, first, numberOf, output, valuesOf, NoneOf}
-use Rattle.answers.proofs.First.{done-none, accepts-none, same-number, not-accepts, if-done, if-refused}
+use Rattle.answers.proofs.First.{done-none, none-parts, accepts-none, same-number, not-accepts, if-done, if-refused}
 use Rattle.links.specs.{Record.recordSize, Links.freshSender, Links.senderForm, declared.Sender.Sender}
 use Rattle.layout.specs.Layout.{sound}
 use Rattle.layout.proofs.LinkBytes.{sound-size}
 use Rattle.masking.specs.Shares.{flat, at}
-use Rattle.calls.specs.Entry.{inputCauses, sealAnswer, advanced, sealLink, sealShares, sealOutput, reportAnswer, reportOutput}
+use Rattle.calls.specs.Entry.{inputCauses, sealCauses, sealAnswer, advanced, sealLink, sealShares, sealOutput, reportAnswer, reportOutput}
 use Rattle.calls.specs.{Numbered.tapeNeed, Sealed.tagShares, Sealed.sealedRecord, Demand.Accepted}
-use Rattle.calls.proofs.Accepted.{values}
+use Rattle.calls.proofs.Accepted.{accepted-values}
 use Rattle.sending.specs.Stored.{widthAt, senderSize, senderIn, senderBytes}
-use Rattle.sending.specs.Calls.{countSize, sharesSize, sealedCauses, sealedAnswer, sealedLink, recordOutput, sharesOutput}
+use Rattle.sending.specs.Calls.{countSize, sharesSize, sliceCauses, sealedCauses, sealedAnswer, sealedLink, recordOutput, sharesOutput}
 
 keyed-in : (b : Bool) (x : Sender) (m t : List ℕ) (o : ℕ) → Accepted (cond b x freshSender) m t o → b ≡ true
 unfolding sealAnswer
@@ -110,7 +110,7 @@ module _ (l m t o s : List ℕ) {x : Sender} (ex : x ≡ senderIn l) {k : ℕ} (
     is-done = done-none (sealedCauses l m t (length o) (length s)) (done []) none
 
     long : ltb (length s) sharesSize ≡ false
-    long = none .1 .1 .1 .1 .1 .0
+    long = none-parts (sealCauses (senderIn l) m t (length o)) (sliceCauses (length s)) none .1 .0
 
     whole : k ≡ length o
     whole = ek ∙ ap (λ (b : Bool). cond b 0 (length o)) long
@@ -121,7 +121,7 @@ module _ (l m t o s : List ℕ) {x : Sender} (ex : x ≡ senderIn l) {k : ℕ} (
     written : p ++ drop k o ≡ put 0 (sealedRecord (senderIn l) m (at t)) o
     written =
         let r : List ℕ = sealedRecord (senderIn l) m (at t) in
-        ap (λ (b : List ℕ). b ++ drop k o) (left ∙ sym (if-done (values (senderIn l) m t space A) (put 0 r (take k o)) (take k o)))
+        ap (λ (b : List ℕ). b ++ drop k o) (left ∙ sym (if-done (accepted-values (senderIn l) m t space A) (put 0 r (take k o)) (take k o)))
         ∙ ap (λ (i : ℕ). put 0 r (take i o) ++ drop i o) whole ∙ (λ i. put 0 r (take-length o i) ++ drop-length o i)
         ∙ append-nil (put 0 r o)
 
@@ -131,11 +131,11 @@ module _ (l m t o s : List ℕ) {x : Sender} (ex : x ≡ senderIn l) {k : ℕ} (
     -- c is the count of the answer
     module _ {c : ℕ} (ec : c ≡ getD (valuesOf a) 1 0) where
       count : c ≡ tapeNeed (length m)
-      count = ec ∙ ap (λ (b : Answer). getD (valuesOf b) 1 0) (says ∙ values (senderIn l) m t space A)
+      count = ec ∙ ap (λ (b : Answer). getD (valuesOf b) 1 0) (says ∙ accepted-values (senderIn l) m t space A)
 
       pub sealed : {l′ s′ : List ℕ} → l′ ≡ senderBytes y → s′ ≡ put 0 (g ++ bigEndian countSize c) s → Seals l′ s′
       sealed el es =
-          let done-by = values (senderIn l) m t space A in
+          let done-by = accepted-values (senderIn l) m t space A in
           let link = e .1 .0 ∙ (λ i. sealLink (ex i) m t (given i)) ∙ sym (if-done done-by (advanced (senderIn l)) (senderIn l)) in
           let shares = e .1 .1 .0 ∙ (λ i. sealShares (ex i) m t (given i)) ∙ sym
           (if-done done-by (flat (tagShares (senderIn l) m (at t))) _) in (

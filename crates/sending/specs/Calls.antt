@@ -5,13 +5,13 @@ use lib.Dec.{ltb}
 use lib.ListN.{length}
 use Rattle.blocks.specs.Bytes.{bigEndian}
 use Rattle.answers.specs.Answer.{Answer, done, Cause, _when_, first, ifDone, output}
-use Rattle.links.specs.Record.{recordSize, told}
-use Rattle.links.specs.Links.{senderKeys, senderOf, senderForm}
+use Rattle.links.specs.Record.{told}
+use Rattle.links.specs.Links.{senderKeys, senderOf}
 use Rattle.layout.specs.Keying.{keyingAnswer}
 use Rattle.masking.specs.Shares.{flat, at}
 use Rattle.calls.specs.Numbered.{tapeNeed}
 use Rattle.calls.specs.Sealed.{tagShares, sealedRecord}
-use Rattle.calls.specs.Entry.{inputCauses, advanced}
+use Rattle.calls.specs.Entry.{inputCauses, roomCauses, advanced}
 use Rattle.sending.specs.Stored.{senderSize, senderIn, senderBytes}
 
 -- ---- keying, and the link's bytes at the end
@@ -31,10 +31,13 @@ countSize = 4
 abbrev pub sharesSize : ℕ
 sharesSize = 48 + countSize
 
--- the causes of sealing, and a second slice that is too short
+-- the cause of a second slice that is too short; the causes of sealing, and that one
+abbrev pub sliceCauses : ℕ → List Cause
+sliceCauses s = (4 when ltb s sharesSize) ∷ []
+
 abbrev pub sealedCauses : List ℕ → List ℕ → List ℕ → ℕ → ℕ → List Cause
 sealedCauses link m t o s =
-    inputCauses (senderIn link) m t ((4 when ltb o (recordSize (senderForm (senderIn link)) (length m))) ∷ (4 when ltb s sharesSize) ∷ [])
+    let x = senderIn link in inputCauses x m t (roomCauses x m o ++ sliceCauses s)
 
 unfoldable pub sealedAnswer : List ℕ → List ℕ → List ℕ → ℕ → ℕ → Answer
 sealedAnswer link m t o s = first (sealedCauses link m t o s) (done [])

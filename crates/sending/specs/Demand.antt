@@ -2,10 +2,11 @@
 use mathlib.Core.List.{List}
 use Prim.Native.Nat.{ℕ}
 use lib.ListN.{length}
-use Rattle.blocks.specs.Bytes.{Bytes, blockCount}
+use Rattle.blocks.specs.Bytes.{Bytes}
 use Rattle.answers.specs.Answer.{Accepts}
-use Rattle.masking.specs.OneTape.{Shows}
-use Rattle.calls.specs.Demand.{shown, masksOf, keyMaskOf}
+use Rattle.runs.specs.Reported.{Reported}
+use Rattle.calls.specs.Sealed.{sealingCalls}
+use Rattle.calls.specs.Demand.{shown}
 use Rattle.sending.specs.Stored.{senderIn}
 use Rattle.sending.specs.Calls.{sealedAnswer}
 
@@ -25,9 +26,10 @@ pub record StoredSealing : Type 0 where
 abbrev pub shownWith : StoredSealing → List ℕ → ℕ → ℕ → ℕ → List ℕ
 shownWith S t = shown (senderIn (S .link)) (S .message) t
 
--- w is a tape of bytes, as long as that of S, that differs from it at most in the round's 32 mask bytes and in the lane's 16 key mask
--- bytes; with it the call T returns 0 too, and its report shows the lane that the report of S shows
-abbrev pub StoredSameLane : StoredSealing → StoredSealing → ℕ → ℕ → ℕ → List ℕ → Type 0
-StoredSameLane S T k r i =
-    Shows (keyMaskOf (blockCount (length (S .message))) k i) (masksOf k r) (S .tape) (shownWith S (S .tape) k r i)
-    (λ w. Accepts (sealedAnswer (T .link) (T .message) w (length (T .out)) (length (T .shares)))) (λ w. shownWith T w k r i)
+-- the calls of a sealing, the tapes with which the call of it returns 0, and what is shown of it
+abbrev pub storedReported : StoredSealing → Reported
+storedReported S = record {
+  run = sealingCalls (senderIn (S .link)) (S .message);
+  accepts = λ w. Accepts (sealedAnswer (S .link) (S .message) w (length (S .out)) (length (S .shares)));
+  shown = shownWith S;
+}

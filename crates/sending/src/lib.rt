@@ -1,6 +1,5 @@
 // The calls on a sending link in its bytes: each returns 0 or the refusal's number.
 use links::Sender;
-use links::Width;
 use sealing::SealAnswer;
 ghost use mathlib.Core.Path.{_≡_};
 ghost use mathlib.Core.Bool.{cond};
@@ -62,8 +61,17 @@ pub fn key(link: &mut [u8], number: u32, wide: u32, keys: &[u8]) -> u32
     ensures { λ r. ⌜ r ≡ numberOf (senderKeying (now (link .entry)) (now (keys .entry))) ⌝ }
     ensures { λ r. ⌜ now (link .exit) ≡ keyedSender (now (link .entry)) number wide (now (keys .entry)) ⌝ }
 {
-    let tail = [layout::width_byte(Width::told(wide))];
-    layout::key(link, number, keys, 96, &tail)
+    if link.len() != SIZE {
+        return 1;
+    }
+    let keying = Sender::fresh().key(number, wide, keys);
+    let answer = keying.answer;
+    let n = answer.number();
+    if n == 0 {
+        let keyed = keying.link;
+        store(keyed, link);
+    }
+    n
 }
 
 // ---- sealing
@@ -74,10 +82,7 @@ fn tape_count(a: SealAnswer) -> usize
 {
     match a {
         SealAnswer::Sealed { len: _, used } => used,
-        SealAnswer::NotKeyed => 0,
-        SealAnswer::NumbersUsed => 0,
-        SealAnswer::LongMessage => 0,
-        SealAnswer::ShortTape => 0,
+        SealAnswer::Inputs(_) => 0,
         SealAnswer::ShortOutput => 0,
     }
 }

@@ -8,7 +8,7 @@ use Rattle.baksheesh.specs.Baksheesh.{from, permBits, constant}
 use Rattle.words.specs.Words.{unpacked}
 use Rattle.words.proofs.Words.{bit-unpacked, words, ones}
 use Rattle.masking.specs.Shares.{i₀, i₁, i₂, Shares, three}
-use Rattle.masking.specs.{Sbox.shareBit, Sbox.sboxShare, Call.laneRound, Call.shareRound}
+use Rattle.masking.specs.{Sbox.sboxForm, Sbox.shareBit, Sbox.formShare, Call.laneRound, Call.shareRound}
 use Rattle.masking.proofs.Shape.{shares-same}
 
 pub ones-if : (one : Bool) (i : ℕ) → i < 32 → bit (cond one 0xffff_ffff 0) i ≡ one
@@ -16,8 +16,9 @@ ones-if true i h = ones i h
 ones-if false i h = bit-zero i
 
 packed-share : (first : Bool) (a b : List ℕ)
-    → sboxShare first (unpacked a) (unpacked b) ≡ cells (λ c j. shareBit first j (λ e. bit (getD a e 0) c) (λ e. bit (getD b e 0) c))
-unfolding sboxShare
+    → formShare sboxForm first (unpacked a) (unpacked b)
+    ≡ cells (λ c j. shareBit sboxForm first j (λ e. bit (getD a e 0) c) (λ e. bit (getD b e 0) c))
+unfolding formShare
 packed-share first a b =
     cells-same _ _ λ c j h l.
     let x : (s : List ℕ) (e : ℕ) → e < 4 → bitAt (unpacked s) (4 * c + e) ≡ bit (getD s e 0) c = λ s e k. bit-unpacked s c e h k in
@@ -29,8 +30,8 @@ packed-share first a b =
     let b₁ = x b 1 (omega arith) in
     let b₂ = x b 2 (omega arith) in
     four
-    (λ j. shareBit first j (λ e. bitAt (unpacked a) (4 * c + e)) (λ e. bitAt (unpacked b) (4 * c + e))
-    ≡ shareBit first j (λ e. bit (getD a e 0) c) (λ e. bit (getD b e 0) c))
+    (λ j. shareBit sboxForm first j (λ e. bitAt (unpacked a) (4 * c + e)) (λ e. bitAt (unpacked b) (4 * c + e))
+    ≡ shareBit sboxForm first j (λ e. bit (getD a e 0) c) (λ e. bit (getD b e 0) c))
     (simp (a₀, a₁, a₂, a₃, b₀, b₂)) (simp (a₀, a₁, a₂, a₃, b₁, b₂)) (simp (a₀, a₁, a₂, a₃, b₀, b₁, b₂))
     (simp (a₀, a₁, a₂, a₃, b₀, b₁, b₂)) j l
 
@@ -45,7 +46,7 @@ pub share-words : (first : Bool) (one : ℕ) → ((i : ℕ) → i < 32 → bit o
     ∷ bitXor (bitXor (bitXor (product a b 0 2) (product a b 1 2)) (getD a 1 0)) (getD a 3 0)
     ∷ bitXor (bitXor (bitXor (product a b 0 1) (product a b 0 2)) (getD a 2 0)) (getD a 3 0)
     ∷ []
-    ) ≡ sboxShare first (unpacked a) (unpacked b)
+    ) ≡ formShare sboxForm first (unpacked a) (unpacked b)
 share-words first one e a b =
     words _ _ _ _ _
     (λ i h. simp (bit-xor, bit-and, e i h)) (λ i h. simp (bit-xor, bit-and, e i h)) (λ i h. simp (bit-xor, bit-and))
@@ -53,7 +54,7 @@ share-words first one e a b =
     ∙ sym (packed-share first a b)
 
 -- a round of a lane by its steps, for the first share and for another
-module _ (n : ℕ) (f : Bool) (a b k s r : List ℕ) (moved : s ≡ permBits (sboxShare f a b)) where
+module _ (n : ℕ) (f : Bool) (a b k s r : List ℕ) (moved : s ≡ permBits (formShare sboxForm f a b)) where
   pub round-first : f ≡ true → r ≡ (s ⊕ constant n) ⊕ k → r ≡ laneRound n f a b k
   unfolding laneRound
   round-first t e = e ∙ λ i. (moved i ⊕ cond (sym t i) (constant n) zeros) ⊕ k
@@ -61,8 +62,8 @@ module _ (n : ℕ) (f : Bool) (a b k s r : List ℕ) (moved : s ≡ permBits (sb
   pub round-other : f ≡ false → r ≡ s ⊕ k → r ≡ laneRound n f a b k
   unfolding laneRound
   round-other t e =
-      e ∙ ap (λ (z : List ℕ). z ⊕ k) (moved ∙ sym (⊕-zero (rearranged-block from (sboxShare f a b))))
-      ∙ ap (λ (z : Bool). (permBits (sboxShare f a b) ⊕ cond z (constant n) zeros) ⊕ k) (sym t)
+      e ∙ ap (λ (z : List ℕ). z ⊕ k) (moved ∙ sym (⊕-zero (rearranged-block from (formShare sboxForm f a b))))
+      ∙ ap (λ (z : Bool). (permBits (formShare sboxForm f a b) ⊕ cond z (constant n) zeros) ⊕ k) (sym t)
 
 -- a round lane by lane
 pub round-lanes : (n : ℕ) (s k : Shares) {a b c : List ℕ} → a ≡ laneRound n true (s i₁) (s i₂) (k i₀)

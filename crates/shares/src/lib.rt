@@ -14,7 +14,7 @@ ghost use lib.ListN.{length};
 ghost use Rattle.baksheesh.specs.Baksheesh.{rounds, rotated};
 ghost use Rattle.words.specs.Words.{unpacked};
 ghost use Rattle.masking.specs.Shares.{spread, each, sharesIn, flat, add as addShares, only as onlyShare, at, pairSize, masksAt};
-ghost use Rattle.masking.specs.Sbox.{sboxShare};
+ghost use Rattle.masking.specs.Sbox.{sboxForm, formShare};
 ghost use Rattle.masking.specs.Call.{laneRound, shareRound, pairCount, callSize};
 ghost use Rattle.shares.specs.Packed.{sharesOf, Onward, CallDone};
 
@@ -66,7 +66,7 @@ fn ones_if(one: bool) -> u32
 
 // The S-box's output share from the next share a and the one after it, b.
 fn sbox_share(first: bool, a: [u32; 4], b: [u32; 4]) -> [u32; 4]
-    ensures { λ r. ⌜ unpacked r ≡ sboxShare first (unpacked a) (unpacked b) ⌝ }
+    ensures { λ r. ⌜ unpacked r ≡ formShare sboxForm first (unpacked a) (unpacked b) ⌝ }
 {
     let one = ones_if(first);
     let a0 = a[0];

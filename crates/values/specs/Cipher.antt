@@ -8,7 +8,7 @@ use Rattle.blocks.specs.Bits.{blockOf}
 use Rattle.baksheesh.specs.Baksheesh.{subCells, invSubCells, permBits, rotated, encrypt}
 use Rattle.modes.specs.Cmac.{doubled}
 use Rattle.masking.specs.Shares.{sharesIn, flat}
-use Rattle.masking.specs.Sbox.{sboxShares}
+use Rattle.masking.specs.Sbox.{sboxForm, formShares}
 use Rattle.masking.specs.Call.{shareRound, encryption}
 use Rattle.values.specs.Row.{Row, _is_}
 
@@ -26,7 +26,7 @@ ofCells a b c = ofCell a ++ (ofCell b ++ ofCell c)
 
 -- what the shared S-box makes of such shares
 abbrev pub shared : ℕ → ℕ → ℕ → List ℕ
-shared a b c = flat (sboxShares (sharesIn (ofCells a b c)))
+shared a b c = flat (formShares sboxForm (sharesIn (ofCells a b c)))
 
 abbrev pub cipherRows : List Row
 cipherRows =

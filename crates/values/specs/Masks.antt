@@ -8,10 +8,10 @@ use Rattle.links.specs.declared.Sender.{Sender}
 use Rattle.links.specs.declared.Width.the-variants.{Narrow}
 use Rattle.masking.specs.Shares.{Index, i₀, i₁, i₂, Shares, three, flat, Reader, at, masksAt}
 use Rattle.masking.specs.Call.{encryption, pairCount, callSize}
-use Rattle.runs.specs.Run.{keyShares, laneOf}
+use Rattle.runs.specs.Run.{Run, keyShares, laneOf}
+use Rattle.runs.specs.Reported.{pairAt, keyMaskAt}
 use Rattle.calls.specs.Numbered.{tapeNeed}
 use Rattle.calls.specs.Sealed.{sealingCalls}
-use Rattle.calls.specs.Demand.{masksOf, keyMaskOf}
 use Rattle.values.specs.Row.{Row, _is_}
 
 -- three shares, one behind the other, each of them as one number
@@ -36,19 +36,27 @@ sampleSender = record {
 abbrev pub sampleMessage : ℕ → List ℕ
 sampleMessage m = tab m (λ j. 192 + j)
 
+-- the calls of sealing m bytes on it
+abbrev pub sampleCalls : ℕ → Run
+sampleCalls m = sealingCalls sampleSender (sampleMessage m)
+
 -- the key shares of call k of sealing a block on it, and lane i of the first round of the first call
 abbrev pub keysOf : ℕ → List ℕ
-keysOf k = flat (keyShares encryption (sealingCalls sampleSender (sampleMessage 16)) counted k)
+keysOf k = flat (keyShares encryption (sampleCalls 16) counted k)
 
 abbrev pub firstLane : Index → List ℕ
-firstLane i = laneOf encryption (sealingCalls sampleSender (sampleMessage 16)) counted 1 1 i
+firstLane i = laneOf encryption (sampleCalls 16) counted 1 1 i
+
+-- where the masks of round r of call k stand, of sealing 256 bytes
+abbrev pub masksOf : ℕ → ℕ → ℕ
+masksOf = pairAt (sampleCalls 256)
 
 -- what call k of sealing m bytes on it takes in, where call j put out the shares of `sampleOutput j`
 abbrev pub sampleOutput : ℕ → Shares
 sampleOutput k = three (tab 16 (λ j. 16 * k + j)) (tab 16 (λ j. 128 + 7 * k + 2 * j)) (tab 16 (λ j. 240 - 11 * k - 3 * j))
 
 abbrev pub takenIn : ℕ → ℕ → List ℕ
-takenIn m k = flat (sealingCalls sampleSender (sampleMessage m) .input k sampleOutput)
+takenIn m k = flat (sampleCalls m .input k sampleOutput)
 
 abbrev pub maskRows : List Row
 maskRows =
@@ -58,10 +66,10 @@ maskRows =
     ∷ (flat (masksAt counted 33)
     is ofShares 0x2122232425262728292a2b2c2d2e2f30 0x3132333435363738393a3b3c3d3e3f40 0x10101010101010101010101010101070)
     -- where the key mask of lanes 0, 1 and 2 stands, in sealing one block: of CTR's call, of the subkeys' and of CMAC's two
-    ∷ (map (keyMaskOf 1 1) (0 ∷ 1 ∷ 2 ∷ []) is (0 ∷ 16 ∷ 0 ∷ []))
-    ∷ (map (keyMaskOf 1 2) (0 ∷ 1 ∷ 2 ∷ []) is (32 ∷ 48 ∷ 32 ∷ []))
-    ∷ (map (keyMaskOf 1 3) (0 ∷ 1 ∷ 2 ∷ []) is (32 ∷ 48 ∷ 32 ∷ []))
-    ∷ (map (keyMaskOf 1 4) (0 ∷ 1 ∷ 2 ∷ []) is (32 ∷ 48 ∷ 32 ∷ []))
+    ∷ (map (keyMaskAt (sampleCalls 16) 1) (0 ∷ 1 ∷ 2 ∷ []) is (0 ∷ 16 ∷ 0 ∷ []))
+    ∷ (map (keyMaskAt (sampleCalls 16) 2) (0 ∷ 1 ∷ 2 ∷ []) is (32 ∷ 48 ∷ 32 ∷ []))
+    ∷ (map (keyMaskAt (sampleCalls 16) 3) (0 ∷ 1 ∷ 2 ∷ []) is (32 ∷ 48 ∷ 32 ∷ []))
+    ∷ (map (keyMaskAt (sampleCalls 16) 4) (0 ∷ 1 ∷ 2 ∷ []) is (32 ∷ 48 ∷ 32 ∷ []))
     -- where the pairs of masks stand: rounds 1, 2 and 36 of call 1, round 1 of call 2, round 36 of call 34
     ∷ ((masksOf 1 1 ∷ masksOf 1 2 ∷ masksOf 1 36 ∷ masksOf 2 1 ∷ masksOf 34 36 ∷ []) is (64 ∷ 96 ∷ 1184 ∷ 1216 ∷ 39200 ∷ []))
     -- the pairs of masks of a call and their bytes; the tape need of a message of 0, 1, 16, 17 and 256 bytes

@@ -11,8 +11,6 @@ use Rattle.links.specs.declared.Sender.{Sender}
 use Rattle.links.specs.declared.Width.{Width}
 use Rattle.links.specs.declared.Width.the-variants.{Narrow, Wide}
 use Rattle.plain.specs.Plain.{plainRecord}
-use Rattle.opening.specs.Receivers.{receiverOf, receiverForm}
-use Rattle.opening.specs.declared.Receiver.{Receiver}
 use Rattle.values.specs.Row.{Row, _is_}
 
 -- the shortest record of a width, the longest, and the greatest number
@@ -23,13 +21,9 @@ sizes w = recordSize (formOf w) 0 ∷ recordSize (formOf w) 256 ∷ greatest (fo
 abbrev pub rising : ℕ → List ℕ
 rising n = tab n (λ j. j)
 
--- the fields of a link: 1 if it is keyed, its number, the last number or the window, the shortest record, its keys
+-- the fields of a sender: 1 if it is keyed, its number, the last number, the shortest record, its keys
 abbrev pub senderFields : Sender → List ℕ
 senderFields x = cond (x .keyed) 1 0 ∷ x .number ∷ x .last ∷ recordSize (senderForm x) 0 ∷ (x .ke ++ x .km)
-
-abbrev pub receiverFields : Receiver → List ℕ
-receiverFields x =
-    cond (x .keyed) 1 0 ∷ x .number ∷ x .window .highest ∷ x .window .accepted ∷ recordSize (receiverForm x) 0 ∷ (x .ke ++ x .km)
 
 abbrev pub recordRows : List Row
 recordRows =
@@ -43,11 +37,9 @@ recordRows =
     -- told 0, 1 and 4294967295: the shortest and the longest record, and the greatest number
     ∷ ((sizes (told 0) ++ (sizes (told 1) ++ sizes (told 4294967295)))
     is (24 ∷ 280 ∷ 4294967295 ∷ 28 ∷ 284 ∷ 18446744073709551615 ∷ 28 ∷ 284 ∷ 18446744073709551615 ∷ []))
-    -- a sender keyed as link 7, told 2 and 0; a receiver likewise
+    -- a sender keyed as link 7, told 2 and 0
     ∷ (senderFields (senderOf 7 (told 2) (rising 96)) is (1 ∷ 7 ∷ 0 ∷ 28 ∷ rising 96))
     ∷ (senderFields (senderOf 7 (told 0) (rising 96)) is (1 ∷ 7 ∷ 0 ∷ 24 ∷ rising 96))
-    ∷ (receiverFields (receiverOf 7 (told 2) (rising 32)) is (1 ∷ 7 ∷ 0 ∷ 0 ∷ 28 ∷ rising 32))
-    ∷ (receiverFields (receiverOf 7 (told 0) (rising 32)) is (1 ∷ 7 ∷ 0 ∷ 0 ∷ 24 ∷ rising 32))
     -- 17 bytes sealed under two keys into a wide record
     ∷ (plainRecord (formOf Wide) (encrypt (bigEndian 16 0x000102030405060708090a0b0c0d0e0f))
     (encrypt (bigEndian 16 0x101112131415161718191a1b1c1d1e1f)) 0x01020304 0x05060708090a0b0c (tab 17 (λ j. 192 + j))

@@ -1,12 +1,11 @@
 -- Which refusal each entry answers: every number, on both sides of its limit, and where two neighbouring causes apply at once.
 -- Assumes nothing.
 use mathlib.Core.Bool.{Bool, true, false}
-use mathlib.Core.List.{List, [], _∷_, _++_, map}
+use mathlib.Core.List.{List, [], _∷_, map}
 use Prim.Native.Nat.{ℕ}
 use lib.ListN.{replicate}
 use Rattle.blocks.specs.Bytes.{zeros}
 use Rattle.answers.specs.Answer.{numberOf}
-use Rattle.engines.specs.Block.{blockAnswer}
 use Rattle.links.specs.Record.{told, formOf, recordOf}
 use Rattle.links.specs.Links.{senderKeys, keyAnswer}
 use Rattle.links.specs.declared.Width.{Width}
@@ -14,18 +13,14 @@ use Rattle.links.specs.declared.Width.the-variants.{Narrow, Wide}
 use Rattle.links.specs.declared.Sender.{Sender}
 use Rattle.plain.specs.Plain.{plainRecord}
 use Rattle.plain.specs.Entry.{plainAnswer}
-use Rattle.opening.specs.Receivers.{receiverKeys}
+use Rattle.opening.specs.Opener.{receiverKeys}
 use Rattle.calls.specs.Entry.{sealAnswer, reportAnswer}
 use Rattle.values.specs.Row.{Row, _is_}
-use Rattle.values.specs.Windows.{early, receiverWith, openNumber}
+use Rattle.values.specs.Windows.{early, openerWith, openNumber}
 
 -- n zeros
 abbrev pub zeroBytes : ℕ → List ℕ
 zeroBytes n = replicate n 0
-
--- a block call with a key, an input and an output of so many bytes
-abbrev pub blockOn : ℕ → ℕ → ℕ → ℕ
-blockOn k i o = numberOf (blockAnswer (zeroBytes k) (zeroBytes i) (zeroBytes o))
 
 -- keying with n bytes a link that takes t
 abbrev pub keyedWith : ℕ → ℕ → ℕ
@@ -44,7 +39,7 @@ sealedEmpty v s = plainRecord (formOf v) (λ b. b) (λ b. b) 7 s []
 
 -- opening of r with room for o bytes on link 7, whose numbers 1 to 3 were accepted
 abbrev pub openOn : Width → List ℕ → ℕ → ℕ
-openOn v r o = openNumber (receiverWith true v early) r o
+openOn v r o = openNumber v (openerWith true early) r o
 
 -- the sender of link 7, keyed or not, of that width, with the last number l
 abbrev pub senderWith : Bool → Width → ℕ → Sender
@@ -67,12 +62,8 @@ laneOn k r i o = reportOn (ready Narrow 0) 0 2368 k r i o
 
 abbrev pub refusalRows : List Row
 refusalRows =
-    -- block calls: key, input and output of 15, 16 and 17 bytes
-    (map (λ n. blockOn n 16 16) (15 ∷ 16 ∷ 17 ∷ []) is (5 ∷ 0 ∷ 5 ∷ []))
-    ∷ (map (λ n. blockOn 16 n 16) (15 ∷ 16 ∷ 17 ∷ []) is (5 ∷ 0 ∷ 5 ∷ []))
-    ∷ (map (λ n. blockOn 16 16 n) (15 ∷ 16 ∷ 17 ∷ []) is (5 ∷ 0 ∷ 5 ∷ []))
     -- keying a sender and a receiver
-    ∷ (map (keyedWith senderKeys) (0 ∷ 95 ∷ 96 ∷ 97 ∷ []) is (1 ∷ 1 ∷ 0 ∷ 1 ∷ []))
+    (map (keyedWith senderKeys) (0 ∷ 95 ∷ 96 ∷ 97 ∷ []) is (1 ∷ 1 ∷ 0 ∷ 1 ∷ []))
     ∷ (map (keyedWith receiverKeys) (0 ∷ 31 ∷ 32 ∷ 33 ∷ []) is (1 ∷ 1 ∷ 0 ∷ 1 ∷ []))
     -- plain sealing: 1 for 31 and 33 bytes of keys, also with the number 0
     ∷ ((plainOn 0 31 1 0 24 ∷ plainOn 0 32 1 0 24 ∷ plainOn 0 33 1 0 24 ∷ plainOn 0 31 0 0 24 ∷ []) is (1 ∷ 0 ∷ 1 ∷ 1 ∷ []))
@@ -84,7 +75,7 @@ refusalRows =
     ∷ ((plainOn 0 32 1 256 280 ∷ plainOn 0 32 1 257 281 ∷ plainOn 0 32 1 257 0 ∷ []) is (0 ∷ 2 ∷ 2 ∷ []))
     ∷ ((plainOn 0 32 1 0 23 ∷ plainOn 0 32 1 256 279 ∷ plainOn 1 32 1 0 27 ∷ []) is (4 ∷ 4 ∷ 4 ∷ []))
     -- opening: 20 on a link that is not keyed, also of 23 bytes
-    ∷ (map (λ r. openNumber (receiverWith false Narrow early) r 0) (sealedEmpty Narrow 4 ∷ zeroBytes 23 ∷ []) is (20 ∷ 20 ∷ []))
+    ∷ (map (λ r. openNumber Narrow (openerWith false early) r 0) (sealedEmpty Narrow 4 ∷ zeroBytes 23 ∷ []) is (20 ∷ 20 ∷ []))
     -- 7 for a byte too few or too many, also with another link's number; 8 for that
     ∷ (map (λ r. openOn Narrow r 256) (zeroBytes 23 ∷ zeroBytes 24 ∷ zeroBytes 280 ∷ zeroBytes 281 ∷ []) is (7 ∷ 8 ∷ 8 ∷ 7 ∷ []))
     ∷ (map (λ r. openOn Wide r 256) (zeroBytes 27 ∷ zeroBytes 28 ∷ zeroBytes 284 ∷ zeroBytes 285 ∷ []) is (7 ∷ 8 ∷ 8 ∷ 7 ∷ []))

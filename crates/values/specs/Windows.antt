@@ -10,9 +10,8 @@ use Rattle.links.specs.declared.Width.{Width}
 use Rattle.links.specs.declared.Width.the-variants.{Narrow, Wide}
 use Rattle.window.specs.Window.{empty, after}
 use Rattle.window.specs.declared.Window.{Window}
+use Rattle.opening.specs.Opener.{Opener}
 use Rattle.opening.specs.Open.{openAnswer}
-use Rattle.opening.specs.Receivers.{receiverForm}
-use Rattle.opening.specs.declared.Receiver.{Receiver}
 use Rattle.values.specs.Row.{Row, _is_}
 
 -- the windows after 1, 3 and 2 were accepted, in this order, and after 66 too
@@ -29,17 +28,17 @@ beyond = record { highest = 4294967298; accepted = 3 }
 abbrev pub fields : Window → List ℕ
 fields w = w .highest ∷ w .accepted ∷ []
 
--- the receiver of link 7, keyed or not, of that width, with the window w
-abbrev pub receiverWith : Bool → Width → Window → Receiver
-receiverWith b v w = record { keyed = b; number = 7; window = w; width = v; ke = replicate 16 0xaa; km = replicate 16 0xbb }
+-- what opening knows of link 7, keyed or not, with the window w
+abbrev pub openerWith : Bool → Window → Opener
+openerWith b w = record { keyed = b; number = 7; window = w; ke = replicate 16 0xaa; km = replicate 16 0xbb }
 
--- what it answers to a record r with room for o bytes, where CMAC uses a function that changes no block
-abbrev pub openNumber : Receiver → List ℕ → ℕ → ℕ
-openNumber x r o = numberOf (openAnswer (receiverForm x) (λ k b. b) x r o)
+-- what it answers on such a link of the width v to a record r with room for o bytes, where CMAC uses a function that changes no block
+abbrev pub openNumber : Width → Opener → List ℕ → ℕ → ℕ
+openNumber v x r o = numberOf (openAnswer (formOf v) (λ k b. b) x r o)
 
 -- to one of the width u with an empty message, the number s and a tag of zeros
 abbrev pub answered : Width → Window → Width → ℕ → ℕ
-answered v w u s = openNumber (receiverWith true v w) (recordOf (formOf u) 7 s [] zeros) 0
+answered v w u s = openNumber v (openerWith true w) (recordOf (formOf u) 7 s [] zeros) 0
 
 abbrev pub windowRows : List Row
 windowRows =

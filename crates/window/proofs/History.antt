@@ -6,8 +6,10 @@ use Rattle.bits.specs.Bit.{bit}
 use Rattle.bits.proofs.{Laws.bit-zero, Test.same-test}
 use Rattle.answers.specs.Answer.{Answer, numberOf, Accepts}
 use Rattle.answers.proofs.First.{either}
+use Rattle.history.specs.History.{stateAfter, acceptedBy, among}
+use Rattle.history.proofs.History.{kept-after}
 use Rattle.window.specs.Window.{span, empty, Inside, known, Admitted, shifted, movedUp, marked, after}
-use Rattle.window.specs.History.{linkAfter, acceptedBy, among, highestOf, Eligible, Tells, Moves}
+use Rattle.window.specs.History.{highestOf, Eligible, Tells, Moves}
 use Rattle.window.specs.declared.Window.{Window}
 use Rattle.window.proofs.Word.{bit-shifted, bit-vacated, bit-set, bit-first-set}
 use Rattle.window.proofs.Admits.{after-right, after-inside, admits-less, not-again}
@@ -88,44 +90,43 @@ tells-nothing = record { distinct = tt; from-one = refl; highest = refl; word = 
 
 -- ---- openings in turn
 
-module _ {X Q : Type 0} (next : X → Q → X) (answer : X → Q → Answer) (number : Q → ℕ) (window : X → Window) (Good : X → Type 0) where
+module _ {X Q : Type 0} (next : X → Q → X) (answer : X → Q → Answer) (number : X → Q → ℕ) (window : X → Window)
+    (Good : X → Type 0) where
   module _ (x : X) (q : Q) (m : Moves next answer number window Good x q) where
     tells-step : (ss : List ℕ) → Tells (window x) ss
-        → Tells (window (next x q)) (cond (eqb (numberOf (answer x q)) 0) (number q ∷ ss) ss)
+        → Tells (window (next x q)) (cond (eqb (numberOf (answer x q)) 0) (number x q ∷ ss) ss)
     tells-step ss T = either (Tells (window (next x q))) (eqb (numberOf (answer x q)) 0)
         (λ e. let a = eqb-true (numberOf (answer x q)) 0 e in
-        subst (λ (v : Window). Tells v (number q ∷ ss)) (sym (m .moved a)) (tells-after (window x) ss (number q) T (m .admitted a)))
+        subst (λ (v : Window). Tells v (number x q ∷ ss)) (sym (m .moved a)) (tells-after (window x) ss (number x q) T (m .admitted a)))
         (λ e. subst (λ (v : Window). Tells v ss) (sym (m .kept (eqb-false (numberOf (answer x q)) 0 e))) T)
 
     admitted-step : (s : ℕ) → Admitted (window (next x q)) s → Admitted (window x) s
     admitted-step s h = elim (ℕ-discrete (numberOf (answer x q)) 0) [
-      | yes a ↦ admits-less (window x) (number q) s (subst (λ (v : Window). Admitted v s) (m .moved a) h)
+      | yes a ↦ admits-less (window x) (number x q) s (subst (λ (v : Window). Admitted v s) (m .moved a) h)
       | no a ↦ subst (λ (v : Window). Admitted v s) (m .kept a) h
     ]
 
   module _ (moves : (x : X) (q : Q) → Good x → Moves next answer number window Good x q) (x : X) (g : Good x) where
-    good-after : (qs : List Q) → Good (linkAfter next x qs)
-    good-after [] = g
-    good-after (q ∷ qs) = moves (linkAfter next x qs) q (good-after qs) .good
-
-    moves-after : (qs : List Q) (q : Q) → Moves next answer number window Good (linkAfter next x qs) q
-    moves-after qs q = moves (linkAfter next x qs) q (good-after qs)
+    moves-after : (qs : List Q) (q : Q) → Moves next answer number window Good (stateAfter next x qs) q
+    moves-after qs q = moves (stateAfter next x qs) q (kept-after next Good (λ y p h. moves y p h .good) x g qs)
 
     -- from a window without numbers on, it tells of those accepted
-    pub window-tells : window x ≡ empty → (qs : List Q) → Tells (window (linkAfter next x qs)) (acceptedBy next x answer number qs)
+    pub window-tells : window x ≡ empty → (qs : List Q) → Tells (window (stateAfter next x qs)) (acceptedBy next x answer number qs)
     window-tells e [] = subst (λ (v : Window). Tells v []) (sym e) tells-nothing
-    window-tells e (q ∷ qs) = tells-step (linkAfter next x qs) q (moves-after qs q) (acceptedBy next x answer number qs) (window-tells e qs)
+    window-tells e (q ∷ qs) =
+        tells-step (stateAfter next x qs) q (moves-after qs q) (acceptedBy next x answer number qs) (window-tells e qs)
 
     -- what a link admits after some openings, it admitted before them
-    admitted-before : (qs : List Q) (s : ℕ) → Admitted (window (linkAfter next x qs)) s → Admitted (window x) s
+    admitted-before : (qs : List Q) (s : ℕ) → Admitted (window (stateAfter next x qs)) s → Admitted (window x) s
     admitted-before [] s h = h
-    admitted-before (q ∷ qs) s h = admitted-before qs s (admitted-step (linkAfter next x qs) q (moves-after qs q) s h)
+    admitted-before (q ∷ qs) s h = admitted-before qs s (admitted-step (stateAfter next x qs) q (moves-after qs q) s h)
 
   -- a number that was accepted is not accepted again, whatever the window was and whatever is opened in between
   pub never-again : ((x : X) (q : Q) → Good x → Moves next answer number window Good x q) → (x : X) → Good x → (q : Q)
-      → Accepts (answer x q) → (qs : List Q) (p : Q) → number p ≡ number q → Accepts (answer (linkAfter next (next x q) qs) p) → ⊥
+      → Accepts (answer x q) → (qs : List Q) (p : Q) → let y = stateAfter next (next x q) qs in
+      number y p ≡ number x q → Accepts (answer y p) → ⊥
   never-again moves x g q d qs p e a =
       let m = moves x q g in
-      let h = admitted-before moves (next x q) (m .good) qs (number p) (moves-after moves (next x q) (m .good) qs p .admitted a) in
-      not-again (window x) (number q)
-      (subst (λ (v : Window). Admitted v (number q)) (m .moved d) (subst (λ (s : ℕ). Admitted (window (next x q)) s) e h))
+      let h = admitted-before moves (next x q) (m .good) qs _ (moves-after moves (next x q) (m .good) qs p .admitted a) in
+      not-again (window x) (number x q)
+      (subst (λ (v : Window). Admitted v (number x q)) (m .moved d) (subst (λ (s : ℕ). Admitted (window (next x q)) s) e h))

@@ -1,39 +1,15 @@
 -- What a window tells of the numbers accepted: on any links, over any list of openings. Assumes nothing.
 use mathlib.Core.Path.{_≡_}
-use mathlib.Core.Bool.{Bool, false, cond, _||_}
+use mathlib.Core.Bool.{false}
 use mathlib.Core.List.{List, [], _∷_}
 use Prim.Native.Nat.{ℕ, _+_, _-_, _≤_, _<_, max}
-use lib.Dec.{eqb}
 use Rattle.bits.specs.Bit.{bit}
-use Rattle.answers.specs.Answer.{Answer, numberOf, Accepts}
+use Rattle.answers.specs.Answer.{Answer, Accepts}
+use Rattle.history.specs.History.{among, Distinct}
 use Rattle.window.specs.Window.{span, Admitted, after}
 use Rattle.window.specs.declared.Window.{Window}
 
--- ---- openings in turn, each on the link that the one before left; lists of them have the newest first
-
--- an opening q on a link x leaves the link `next x q`
-module _ {X Q : Type 0} (next : X → Q → X) (x : X) where
-  -- the link that they leave
-  abbrev pub linkAfter : List Q → X
-  linkAfter [] = x
-  linkAfter (q ∷ qs) = next (linkAfter qs) q
-
-  -- the numbers of the records that were accepted: those for which 0 was answered
-  module _ (answer : X → Q → Answer) (number : Q → ℕ) where
-    abbrev pub acceptedBy : List Q → List ℕ
-    acceptedBy [] = []
-    acceptedBy (q ∷ qs) = cond (eqb (numberOf (answer (linkAfter qs) q)) 0) (number q ∷ acceptedBy qs) (acceptedBy qs)
-
 -- ---- numbers
-
-abbrev pub among : ℕ → List ℕ → Bool
-among s [] = false
-among s (t ∷ ts) = eqb s t || among s ts
-
--- none stands twice
-abbrev pub Distinct : List ℕ → Type 0
-Distinct [] = Unit {0}
-Distinct (s ∷ ss) = (among s ss ≡ false) × Distinct ss
 
 -- the highest; 0 if there is none
 abbrev pub highestOf : List ℕ → ℕ
@@ -56,10 +32,11 @@ pub record Tells (w : Window) (ss : List ℕ) : Type 0 where
 
 -- ---- what an opening does with the window of its link: it accepts admitted numbers alone, and moves the window for these alone
 
-module _ {X Q : Type 0} (next : X → Q → X) (answer : X → Q → Answer) (number : Q → ℕ) (window : X → Window) (Good : X → Type 0) where
+module _ {X Q : Type 0} (next : X → Q → X) (answer : X → Q → Answer) (number : X → Q → ℕ) (window : X → Window)
+    (Good : X → Type 0) where
   -- on a link that is as it has to be, and leaves it so
   pub record Moves (x : X) (q : Q) : Type 0 where
     pub good : Good (next x q)
-    pub admitted : Accepts (answer x q) → Admitted (window x) (number q)
-    pub moved : Accepts (answer x q) → window (next x q) ≡ after (window x) (number q)
+    pub admitted : Accepts (answer x q) → Admitted (window x) (number x q)
+    pub moved : Accepts (answer x q) → window (next x q) ≡ after (window x) (number x q)
     pub kept : (Accepts (answer x q) → ⊥) → window (next x q) ≡ window x

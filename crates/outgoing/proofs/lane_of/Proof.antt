@@ -1,11 +1,10 @@
 -- `lane_of` meets its contract: two shares of the state and one of the key, one behind the other. Assumes nothing.
 use Rattle.prelude.proofs.{_≡_, ap, _∙_, List, _++_, ℕ, _+_, _*_, _%_, _<_, arith, needs}
 use Rattle.blocks.specs.Bytes.{part}
-use Rattle.masking.specs.Shares.{flat}
+use Rattle.masking.specs.Shares.{indexOf, flat}
+use Rattle.masking.proofs.Lane.{index-next, index-after, part-flat}
 use Rattle.shares.specs.{declared.Triple.Triple, Packed.sharesOf}
 use Rattle.shares.proofs.Onward.{packed-blocks}
-use Rattle.calls.specs.Entry.{indexOf}
-use Rattle.calls.proofs.Lanes.{index-next, index-after, part-flat}
 use Rattle.outgoing.proofs.lane_of as fn
 
 -- share k of the shares t, whose bytes are b

@@ -3,12 +3,12 @@ use Rattle.prelude.proofs.{_≡_, ap, _∙_, List, ℕ, needs}
 use Rattle.blocks.specs.Bytes.{_⊕_}
 use Rattle.baksheesh.specs.Baksheesh.{permBits}
 use Rattle.words.specs.Words.{unpacked}
-use Rattle.masking.specs.Sbox.{sboxShare}
+use Rattle.masking.specs.Sbox.{sboxForm, formShare}
 use Rattle.shares.proofs.Packed.{round-first, round-other}
 use Rattle.shares.proofs.lane_round as fn
 
 moved : (c : fn.Tie.After-perm-bits) → let a = c .before .before .args in
-    unpacked (c .perm-bits .result) ≡ permBits (sboxShare (a .first) (unpacked (a .a)) (unpacked (a .b)))
+    unpacked (c .perm-bits .result) ≡ permBits (formShare sboxForm (a .first) (unpacked (a .a)) (unpacked (a .b)))
 moved c = c .perm-bits .ensures ∙ ap permBits (c .before .sbox-share .ensures)
 
 returns : fn.Tie.Need-returns

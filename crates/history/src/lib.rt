@@ -1,0 +1,1 @@
+// Operations in turn on one state as definitions: specs/History.antt.
