@@ -224,7 +224,7 @@ static void draw_words(int x, int y)
 /* The whole picture. */
 void draw_crates(void)
 {
-    enum { WIDE = 900, LEFT = 24, TOP = 76, BETWEEN = 20 };
+    enum { WIDE = 1200, LEFT = 24, TOP = 76, BETWEEN = 20 };
     read_crates();
     find_reach();
     find_programs();
