@@ -2,7 +2,7 @@
 use Rattle.prelude.proofs.{_≡_, sym, ap, _∙_, subst, true, not, List, [], _∷_, ℕ, _+_, _^_, _≤_, _<_, arith, length, ltb-false}
 use Rattle.prelude.proofs.{eqb-false, not-false, le-ltb, eq-eqb, ne-eqb}
 use Rattle.blocks.specs.Bytes.{blockCount}
-use Rattle.answers.specs.Answer.{Cause, done, first, NoneOf}
+use Rattle.answers.specs.Answer.{Cause, done, first, numberOf, NoneOf}
 use Rattle.answers.proofs.First.{done-none, none-append, none-parts, done-before, accepts-none, none-accepts}
 use Rattle.links.specs.Record.{sequenceMost, greatest, usable, longest, recordSize}
 use Rattle.links.specs.{Links.senderForm, declared.Form.Form, declared.Sender.Sender}
@@ -45,6 +45,10 @@ module _ (x : Sender) (m t : List ℕ) where
         small = ltb-false longest (length m) small;
         long = ltb-false (length t) (tapeNeed (length m)) long;
       }
+
+  -- by the answer of their test
+  pub passed-sealable : first (inputCauses x m t []) (done []) ≡ done [] → Sealable x m t
+  passed-sealable e = none-sealable (accepts-none (inputCauses x m t []) [] tt (ap numberOf e))
 
   -- the next number has a place in a counter block
   pub next-fits : Sealable x m t → x .last + 1 < 256 ^ sequenceMost

@@ -7,9 +7,8 @@ use Rattle.links.specs.Record.{Proper, added, recordSize}
 use Rattle.links.specs.{Links.senderForm, declared.Form.Form}
 use Rattle.links.proofs.Widths.{proper}
 use Rattle.masking.specs.Shares.{flat}
-use Rattle.calls.proofs.Accepted.{Sealable, sealable-none, next-fits}
+use Rattle.calls.proofs.Accepted.{Sealable, sealable-none, passed-sealable, next-fits}
 use Rattle.sealable.specs.Tested.{inputSays}
-use Rattle.sealable.proofs.Tested.{can-seal}
 use Rattle.sealing.specs.Says.{sealSays}
 use Rattle.sealing.proofs.{Answers.inputs-refused, Answers.room-refused, Answers.seal-done, Sealed.record-made}
 use Rattle.sealing.proofs.seal as fn
@@ -28,8 +27,9 @@ returns c =
     (ap sealSays (r .0)) _ _ (r .1) _ _ (r .2) _ _ refl
 
 -- none applies, and sealing can go on
-sealable : (c : fn.Tie.At-match-keys2) → let a = start (c .before) .args in Sealable (a .link) (a .message .now) (a .tape .now)
-sealable c = let test = c .before .test-inputs in can-seal _ _ _ (test .result) (test .ensures) (c .match .keys2)
+sealable : (c : fn.Tie.After-enum-told) → let a = start (c .before .before) .args in Sealable (a .link) (a .message .now) (a .tape .now)
+sealable c =
+    passed-sealable _ _ _ (sym (c .before .before .test-inputs .ensures) ∙ ap inputSays (c .enum-told .given .1))
 
 -- ---- the form, and the output
 
@@ -37,10 +37,10 @@ proper-form : (c : fn.Tie.After-form) → Proper (c .form .result)
 proper-form c = rw (c .form .ensures) (proper (start (c .before .before .before) .args .link .width))
 
 -- from behind the form to the test of the inputs
-abbrev passed : fn.Tie.After-added → fn.Tie.At-match-keys2
-passed c = c .before .before .before
+abbrev passed : fn.Tie.After-added → fn.Tie.After-enum-told
+passed c = c .before .before
 
-sized : (c : fn.Tie.After-added) → c .added .result ≡ added (senderForm (start (passed c .before) .args .link))
+sized : (c : fn.Tie.After-added) → c .added .result ≡ added (senderForm (start (passed c .before .before) .args .link))
 sized c = c .added .ensures ∙ ap (λ (f : Form). added f) (c .before .form .ensures)
 
 returns-2 : fn.Tie.Need-returns-2
@@ -50,7 +50,7 @@ returns-2 c =
     let adds = sized form in
     leaves-three (room-refused _ _ _ _ (sealable-none _ _ _ (sealable (passed form))) (omega (arith, tests))) (ap sealSays (r .0)) _ _ (r .1) _ _ (r .2) _ _ refl
 
-fits : (c : fn.Tie.Else1) → let a = start (passed (c .before) .before) .args in
+fits : (c : fn.Tie.Else1) → let a = start (passed (c .before) .before .before) .args in
     recordSize (senderForm (a .link)) (length (a .message .now)) ≤ length (a .out .now)
 fits c = let adds = sized (c .before) in omega arith
 
@@ -80,7 +80,7 @@ returns-3 c =
     let run = made .before .before .before in
     let form = tested run .before in
     let all = run .run .ensures in
-    let a = start (passed form .before) .args in
+    let a = start (passed form .before .before) .args in
     leaves-three (seal-done _ _ _ _ (sealable-none _ _ _ (sealable (passed form))) (fits (tested run)))
     (ap₂ (λ (n u : ℕ). done ((length (a .message .now) + n) ∷ u ∷ [])) (sized form) (omega (arith, all .walked .used)))
     _ _ refl _ _ (made .unpack-shares .ensures ∙ ap flat (all .tag)) _ _
@@ -91,7 +91,7 @@ returns-3 c =
 pub seal-spec : {M : Type 1} → fn.Statement.statement M
 seal-spec = fn.Tie.close (fn.Tie.spec (λ c κs. search needs) (λ c. search needs) (λ c κs. search needs) returns (λ c. search needs)
     (λ c κs. search needs) (λ c κs. proper-form c)
-    (λ c. let adds = sized c in let p = proper (start (passed c .before) .args .link .width) in
+    (λ c. let adds = sized c in let p = proper (start (passed c .before .before) .args .link .width) in
     let S = sealable (passed c) in omega (arith, S .small))
     (λ c κs. search needs) returns-2 (λ c. omega (arith, next-fits _ _ _ (sealable (passed (c .before .before))))) (λ c. search needs)
     run-requires (λ c κs. search needs) (λ c. search needs) put-record-requires (λ c. search needs) returns-3)
