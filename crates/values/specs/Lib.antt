@@ -3,6 +3,7 @@ pub mod Cipher
 pub mod Masks
 pub mod Records
 pub mod Bodies
+pub mod Histories
 pub mod Windows
 pub mod Refusals
 pub mod Values
