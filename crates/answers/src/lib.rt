@@ -1,1 +1,2 @@
 // Answers and refusals as definitions: specs/Answer.antt.
+#![tactic(auto)]

@@ -1,4 +1,5 @@
 // Reads a key and a block of 16 bytes each, and prints the ciphertext in hexadecimal; for any other length, `length`.
+#![tactic(auto)]
 ghost use Rattle.std.specs.Prelude.{◌≡◌, ◌≤◌, length, take};
 ghost use Rattle.blocks.specs.Bytes.{put};
 ghost use Rattle.block.specs.Printed.{printed};

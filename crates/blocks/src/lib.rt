@@ -1,4 +1,6 @@
 // Parts of a slice: read and written as numbers, blocks and bytes.
+#![tactic(auto)]
+
 ghost use Rattle.std.specs.Prelude.{◌≡◌, ◌++◌, ◌+◌, ◌≤◌, length, take};
 ghost use Rattle.blocks.specs.Bytes.{same_bytes, big_endian, value, part, put};
 

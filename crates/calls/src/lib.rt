@@ -1,1 +1,2 @@
 // Shared sealing by its numbered calls, as definitions: specs/.
+#![tactic(auto)]

@@ -1,4 +1,5 @@
 // Bytes in lower-case hexadecimal digits.
+#![tactic(auto)]
 ghost use Rattle.std.specs.Prelude.{◌≡◌, [], ◌∷◌, ◌+◌, ◌*◌, ◌/◌, ◌%◌, ◌≤◌, ◌<◌, length};
 ghost use Rattle.blocks.specs.Bytes.{put};
 ghost use Rattle.hex.specs.Hex.{glyph, hex_of};

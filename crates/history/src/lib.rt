@@ -1,1 +1,2 @@
 // Operations in turn on one state as definitions: specs/History.antt.
+#![tactic(auto)]

@@ -1,4 +1,5 @@
 // Shared sealing and the lane report: records, tag shares, lanes and refusals.
+#![tactic(auto)]
 ghost use Rattle.std.specs.Prelude.{◌≤◌, length};
 
 use links::Sender;

@@ -1,4 +1,5 @@
 // The sending link lent by `&mut`: every sealing advances it.
+#![tactic(auto)]
 ghost use Rattle.std.specs.Prelude.{◌≡◌, length};
 ghost use Rattle.calls.specs.Entry.{seal_answer, seal_link, seal_shares, seal_output};
 ghost use Rattle.sealing.specs.Says.{seal_says};

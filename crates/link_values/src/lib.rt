@@ -1,1 +1,2 @@
 // Worked values of links in their bytes: specs/Links.antt.
+#![tactic(auto)]

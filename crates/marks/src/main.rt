@@ -1,4 +1,5 @@
 // Bodies written and read: marks at the ends of their ranges and past them, bodies in each order and with each fault.
+#![tactic(auto)]
 use body::{Mark, Offset};
 
 // What an output holds before.

@@ -1,1 +1,2 @@
 // Three XOR shares, masks and calls on them as definitions and laws: specs/, proofs/.
+#![tactic(auto)]

@@ -1,1 +1,2 @@
 // Opening as definitions: specs/Opener.antt, specs/Open.antt.
+#![tactic(auto)]

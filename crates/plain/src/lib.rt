@@ -1,1 +1,2 @@
 // Plain sealing as definitions: specs/Plain.antt, specs/Entry.antt.
+#![tactic(auto)]

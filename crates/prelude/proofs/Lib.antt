@@ -1,5 +1,4 @@
 -- The library's names that the proofs use, each under its own name: a proof file brings them in from here.
-pub mod Walks
 pub use mathlib.Core.Path.{◌≡◌, refl, sym, ap, ◌∙◌, subst, ap₂, subst⁻¹, fun_ext}
 pub use mathlib.Core.Logic.Iff.{and as Iff-and}
 pub use mathlib.Core.Logic.Iff.{trans as Iff-trans}

@@ -1,1 +1,2 @@
 // The library's names for proofs: proofs/Lib.antt.
+#![tactic(auto)]

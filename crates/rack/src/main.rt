@@ -1,5 +1,6 @@
 // A rack's main loop: one sending link through sealings that are done and sealings that are refused. Prints each record in
 // hexadecimal digits, or the refusal's number.
+#![tactic(auto)]
 ghost use Rattle.std.specs.Prelude.{◌≡◌, ◌≤◌, length};
 ghost use Rattle.calls.specs.Entry.{seal_link};
 

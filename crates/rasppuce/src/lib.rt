@@ -1,4 +1,5 @@
 // The calls of a host in C: each slice is a pointer and a length, and each call returns 0 or the refusal's number.
+#![tactic(auto)]
 ghost use Rattle.std.specs.Prelude.{◌≡◌, length};
 ghost use Rattle.answers.specs.Answer.{number_of};
 ghost use Rattle.baksheesh.specs.Baksheesh.{encrypt, decrypt};

@@ -1,4 +1,5 @@
 // The receiving link: what a receiver holds between two calls, its keying, and opening.
+#![tactic(auto)]
 ghost use Rattle.std.specs.Prelude.{◌≡◌, ◌≤◌, length};
 ghost use Rattle.blocks.specs.Bytes.{same_bytes, put};
 ghost use Rattle.answers.specs.Answer.{number_of, if_done, output};

@@ -1,4 +1,5 @@
 // Plain sealing and opening: records, the messages that they open to, and refusals.
+#![tactic(auto)]
 ghost use Rattle.std.specs.Prelude.{◌<◌, ◌≤◌, length};
 
 use receiver::{OpenAnswer, Receiver};

@@ -1,4 +1,5 @@
 // What the programs print, and the bytes that they work on.
+#![tactic(auto)]
 use libc::STDOUT_FILENO;
 
 fn wide(x: u8) -> u64 {

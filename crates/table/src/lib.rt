@@ -1,4 +1,5 @@
 // BAKSHEESH by byte tables.
+#![tactic(auto)]
 ghost use Rattle.std.specs.Prelude.{◌≡◌, ◌<◌};
 ghost use Rattle.baksheesh.specs.Baksheesh.{rounds, round, inv_round, encrypt, decrypt};
 

@@ -1,1 +1,2 @@
 // Worked values of the definitions: specs/Values.antt.
+#![tactic(auto)]

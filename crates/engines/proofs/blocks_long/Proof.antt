@@ -1,8 +1,0 @@
--- `blocks_long` meets its contract. Assumes nothing.
-use Rattle.prelude.proofs.{eq-eqb, ne_eqb}
-use Rattle.engines.proofs.blocks_long as fn
-
-pub blocks-long-spec : {M : Type 1} → fn.Statement.statement M
-blocks-long-spec = fn.Tie.close (fn.Tie.spec (λ c. simp (ne_eqb _ _ c.if1.taken))
-    (λ c. simp (eq-eqb _ _ c.before.if1.left, ne_eqb _ _ c.if2.taken))
-    (λ c. simp (eq-eqb _ _ c.before.if1.left, eq-eqb _ _ c.if2.left)))

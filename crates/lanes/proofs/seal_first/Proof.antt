@@ -1,7 +1,0 @@
--- `seal_first` is safe: a slice from the start is as long as asked for. Assumes nothing.
-use Rattle.prelude.proofs.{sym, length-take-le, needs}
-use Rattle.lanes.proofs.seal_first as fn
-
-pub seal-first-spec : {M : Type 1} → fn.Statement.statement M
-seal-first-spec = fn.Tie.close (fn.Tie.spec (λ c κs. search needs) (λ c. search needs) (λ c. sym (length-take-le _ _ (search needs)))
-    (λ c. sym (length-take-le _ _ (search needs))) (λ c κs. search needs) (λ c. search needs))

@@ -1,0 +1,13 @@
+-- `shift` meets its contract. The loop has written the first i bytes. Assumes nothing.
+use Rattle.prelude.proofs.{◌≡◌, refl, ◌∙◌, ◌-◌, ◌≤◌, arith, replicate, get_or, w8, Fits, rules}
+use Rattle.blocks.specs.Bytes.{Block, put, tab}
+use Rattle.blocks.proofs.Parts.{fill_done, all_none, all_more, all_done}
+use Rattle.modes.specs.Doubling.{shifted_byte}
+use Rattle.modes.proofs.Doubled.{arithmetic-shifts, last-shifted}
+use Rattle.modes.proofs.shift.Given as goal
+
+abbrev pub invariant-loop-i : goal.invariant-loop-i
+invariant-loop-i l = (l.i ≤ 15) × (l.r ≡ put 0 (tab l.i (shifted_byte l.b)) (replicate 16 0))
+
+abbrev pub decreases-loop-i : goal.decreases-loop-i
+decreases-loop-i l = 15 - l.i

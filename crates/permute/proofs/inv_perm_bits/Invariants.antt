@@ -1,0 +1,13 @@
+-- `inv_perm_bits` meets its contract: one test of where each bit comes from. Assumes nothing.
+use Rattle.prelude.proofs.{◌∙◌, ◌-◌, ◌*◌, ◌/◌, ◌%◌, ◌^◌, arith, get_or, rules}
+use Rattle.blocks.proofs.{Parts.all_none, Parts.all_more, Parts.all_done, ByBytes.Written}
+use Rattle.baksheesh.specs.Baksheesh.{to}
+use Rattle.permute.specs.InWord.{to_in_word}
+use Rattle.permute.proofs.Moved.{tab-words}
+use Rattle.permute.proofs.inv_perm_bits.Given as goal
+
+abbrev pub invariant-loop-i : goal.invariant-loop-i
+invariant-loop-i l = Written (λ k. get_or l.w (k / 4) 0 / 2 ^ (8 * (3 - k % 4)) % 256) l.initial.r l.r l.i
+
+abbrev pub decreases-loop-i : goal.decreases-loop-i
+decreases-loop-i l = 16 - l.i

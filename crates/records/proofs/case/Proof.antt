@@ -1,8 +1,0 @@
--- `case` is safe: a slice from the start is as long as asked for. Assumes nothing.
-use Rattle.prelude.proofs.{sym, length-take-le, needs}
-use Rattle.records.proofs.case as fn
-
-pub case-spec : {M : Type 1} → fn.Statement.statement M
-case-spec = fn.Tie.close (fn.Tie.spec (λ c κs. search needs) (λ c. search needs) (λ c. search needs)
-    (λ c. sym (length-take-le _ _ (search needs))) (λ c. search needs) (λ c. sym (length-take-le _ _ (search needs))) (λ c κs. search needs)
-    (λ c. search needs))

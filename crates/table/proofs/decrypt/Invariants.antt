@@ -1,0 +1,13 @@
+-- `decrypt` meets its contract. With n rounds left, the key is rotated by n, and what lies n rounds back
+-- is what lay all rounds back. Assumes nothing.
+use Rattle.prelude.proofs.{◌≡◌, refl, sym, ap, ◌∙◌, List, ℕ, suc, ◌-◌, ◌≤◌, arith, rules}
+use Rattle.blocks.specs.Bytes.{◌⊕◌}
+use Rattle.baksheesh.specs.Baksheesh.{rounds, rotated, inv_round, before, decrypt}
+use Rattle.baksheesh.proofs.Steps.{rotated-back}
+use Rattle.table.proofs.decrypt.Given as goal
+
+abbrev pub invariant-loop-k : goal.invariant-loop-k
+invariant-loop-k l = (l.n ≤ rounds) × (l.k ≡ rotated l.n l.key) × (before l.n l.key l.s ≡ before rounds l.key l.initial.s)
+
+abbrev pub decreases-loop-k : goal.decreases-loop-k
+decreases-loop-k l = l.n

@@ -1,0 +1,19 @@
+-- `step` meets its contract: the call, and what it shows if it is watched. Assumes nothing.
+use Rattle.prelude.proofs.{refl, ◌+◌, rules}
+use Rattle.walks.proofs.Walking.{look_hit, look-miss}
+use Rattle.walks.proofs.step.Goals as goal
+
+pub returns : goal.returns
+returns c =
+    let d = c in
+    let s = d.call.ensures in
+    let r = d.call.result in
+    let a = d.args in
+    record {
+      out = s.out;
+      calls = refl;
+      used = s.used;
+      hit = look_hit (a.w.calls + 1) a.watch.call r.state r.key a.w.seen c.look.result c.look.ensures _ _ _ _ _ _
+          s.state s.key;
+      miss = look-miss (a.w.calls + 1) a.watch.call r.state r.key a.w.seen c.look.result c.look.ensures;
+    }
