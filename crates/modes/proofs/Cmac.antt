@@ -70,8 +70,8 @@ module _ (E : List ℕ → List ℕ) where
   unfolding subkey₂
   subkey₂-block = doubled-block (subkey₁ E)
 
-  pub last_block : (p : List ℕ) → Bytes p → length p ≤ 16 → Block (last_block E p)
-  last_block p b h = elim (dec_lt (length p) 16) [
+  pub last_block_lem : (p : List ℕ) → Bytes p → length p ≤ 16 → Block (last_block E p)
+  last_block_lem p b h = elim (dec_lt (length p) 16) [
     | yes l ↦ rw (last-padded p l) (⊕-block subkey₂-block (padded-block p b l))
     | no l ↦
         let e : length p ≡ 16 = omega arith in
@@ -91,4 +91,4 @@ module _ (E : List ℕ → List ℕ) where
     cmac-block m b =
         let k : ℕ = mac_count m - 1 in
         keeps (chain E zeros m k ⊕ last_block E (piece k m))
-        (⊕-block (chain-block zeros m zeros-block b k (omega arith)) (last_block (piece k m) (piece_bytes k m b) (piece-le k m)))
+        (⊕-block (chain-block zeros m zeros-block b k (omega arith)) (last_block_lem (piece k m) (piece_bytes k m b) (piece-le k m)))

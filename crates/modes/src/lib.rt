@@ -1,6 +1,7 @@
 // Steps of CTR and CMAC that do not know the cipher: a block of the text XORed, padded, doubled. The modes over any block
 // function are definitions: specs/.
 #![tactic(auto)]
+
 ghost use Rattle.std.specs.Prelude.{◌≡◌, ◌+◌, ◌-◌, ◌*◌, ◌≤◌, ◌<◌, min, length};
 ghost use Rattle.blocks.specs.Bytes.{◌⊕◌, part, put, piece};
 ghost use Rattle.modes.specs.Cmac.{shifted, doubled, padded};
