@@ -1,5 +1,6 @@
 // SubCells on the 16 bytes of a block, and back, by tables.
 #![tactic(auto)]
+
 ghost use Rattle.std.specs.Prelude.{◌≡◌, get_or};
 ghost use Rattle.blocks.specs.Bytes.{tab};
 ghost use Rattle.baksheesh.specs.Baksheesh.{sbox, inv_sbox, sub_cells, inv_sub_cells};

@@ -1,6 +1,6 @@
 -- `look_up` meets its contract. Before byte i, the bytes below i are looked up. Assumes nothing.
-use Rattle.prelude.proofs.{refl, ◌-◌, arith, get_or, w8, Fits, rules}
-use Rattle.blocks.proofs.{Parts.all_none, Parts.all_more, Parts.all_done, ByBytes.Written}
+use Rattle.prelude.proofs.{◌-◌, get_or}
+use Rattle.blocks.proofs.ByBytes.{Written}
 use Rattle.lookup.proofs.look_up.Given as goal
 
 abbrev pub invariant-loop-i : goal.invariant-loop-i
