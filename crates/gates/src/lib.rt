@@ -1,5 +1,6 @@
 // SubCells on a block in packed form, and back, by gates.
 #![tactic(auto)]
+
 ghost use Rattle.std.specs.Prelude.{◌≡◌};
 ghost use Rattle.baksheesh.specs.Baksheesh.{sub_cells, inv_sub_cells};
 ghost use Rattle.words.specs.Words.{unpacked};

@@ -1,5 +1,6 @@
 // The steps of a round back on a block in packed form, all but the S-box.
 #![tactic(auto)]
+
 ghost use Rattle.std.specs.Prelude.{◌≡◌, ℕ, ◌+◌, ◌-◌, ◌*◌, ◌/◌, ◌%◌, ◌<◌};
 ghost use Rattle.bits.specs.Bit.{bit};
 ghost use Rattle.baksheesh.specs.Baksheesh.{rounds, rotated, inv_perm_bits};

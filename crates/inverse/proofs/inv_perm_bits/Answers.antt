@@ -6,12 +6,9 @@ use Rattle.inverse.proofs.inv_perm_bits.Goals as goal
 
 pub returns : goal.returns
 returns c =
-    let c₃ = c in
-    let c₂ = c₃ in
-    let c₁ = c₂ in
-    let w = inputs c₁.args.t1 (λ j. search rules) in
+    let w = inputs c.args.s (λ j. search rules) in
     rearranges _
-    (through (xored (shr (w 0) 8) (shl (w 0) 24)) c₁.inv_perm_word.ok _ c₁.inv_perm_word.ensures tt)
-    (through (xored (shr (w 1) 16) (shl (w 1) 16)) c₂.inv_perm_word-2.ok _ c₂.inv_perm_word-2.ensures tt)
-    (through (xored (shr (w 2) 24) (shl (w 2) 8)) c₃.inv_perm_word-3.ok _ c₃.inv_perm_word-3.ensures tt)
-    (through (w 3) c.inv_perm_word-4.ok _ c.inv_perm_word-4.ensures tt) tt tt tt tt tt
+    (through (xored (shr (w 0) 8) (shl (w 0) 24)) c.inv_perm_word.type_inv _ c.inv_perm_word.ensures tt)
+    (through (xored (shr (w 1) 16) (shl (w 1) 16)) c.inv_perm_word-2.type_inv _ c.inv_perm_word-2.ensures tt)
+    (through (xored (shr (w 2) 24) (shl (w 2) 8)) c.inv_perm_word-3.type_inv _ c.inv_perm_word-3.ensures tt)
+    (through (w 3) c.inv_perm_word-4.type_inv _ c.inv_perm_word-4.ensures tt) tt tt tt tt tt

@@ -6,5 +6,5 @@ use Rattle.inverse.proofs.rotate_back.Goals as goal
 
 pub returns : goal.returns
 returns c =
-    let w = inputs c.args.t1 (λ j. search rules) in
+    let w = inputs c.args.k (λ j. search rules) in
     rearranges _ (xored (shl (w 3) 1) (shr (w 3) 31)) (w 0) (w 1) (w 2) tt tt tt tt tt

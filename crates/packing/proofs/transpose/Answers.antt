@@ -6,7 +6,7 @@ use Rattle.packing.proofs.transpose.Goals as goal
 
 pub returns : goal.returns
 returns c =
-    let w = inputs c.args.t1 (λ j. search rules) in
+    let w = inputs c.args.w (λ j. search rules) in
     let t = masked (xored (shr (w 0) 4) (w 1)) _ in
     let u = masked (xored (shr (w 2) 4) (w 3)) _ in
     let x₀ = xored (w 0) (shl t 4) in

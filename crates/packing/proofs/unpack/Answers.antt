@@ -1,5 +1,5 @@
 -- `unpack` meets its contract: it takes the way of `pack` back. Assumes nothing.
-use Rattle.prelude.proofs.{sym, ap, ◌∙◌, rules}
+use Rattle.prelude.proofs.{sym, ap, ◌∙◌}
 use Rattle.blocks.specs.Bits.{rearranged}
 use Rattle.packing.specs.Bytes.{reversed}
 use Rattle.words.proofs.Words.{unpacked-block}
@@ -8,10 +8,7 @@ use Rattle.packing.proofs.unpack.Goals as goal
 
 pub returns : goal.returns
 returns c =
-    let c₃ = c in
-    let c₂ = c₃ in
-    let c₁ = c₂ in
-    (λ i. interleave (c₁.scatter.ensures i) (c₂.scatter-2.ensures i) (c₃.scatter-3.ensures i) (c.scatter-4.ensures i))
+    (λ i. interleave (c.scatter-a.ensures i) (c.scatter-b.ensures i) (c.scatter-c.ensures i) (c.scatter-d.ensures i))
     ∙ sym (interleaved _)
-    ∙ ap (rearranged (reversed 5)) c₁.transpose.ensures
+    ∙ ap (rearranged (reversed 5)) c.transpose-w.ensures
     ∙ reversed-twice _ (unpacked-block _)

@@ -1,5 +1,5 @@
 -- `add` meets its contract, word by word. Assumes nothing.
-use Rattle.prelude.proofs.{sym, ◌∙◌, rules}
+use Rattle.prelude.proofs.{sym, ◌∙◌}
 use Rattle.bits.proofs.Laws.{bit-xor}
 use Rattle.words.proofs.Words.{words, packed-xor}
 use Rattle.words.proofs.steps.add.Goals as goal
@@ -7,4 +7,4 @@ use Rattle.words.proofs.steps.add.Goals as goal
 pub returns : goal.returns
 returns c =
     words _ _ _ _ _ (λ i h. simp bit-xor) (λ i h. simp bit-xor) (λ i h. simp bit-xor) (λ i h. simp bit-xor)
-    ∙ sym (packed-xor c.args.t1 c.args.t2)
+    ∙ sym (packed-xor c.args.s c.args.t)

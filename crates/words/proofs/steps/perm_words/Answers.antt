@@ -1,13 +1,9 @@
 -- `perm_words` meets its contract: one test of what its swaps do to each bit. Assumes nothing.
-use Rattle.prelude.proofs.{rules}
 use Rattle.bits.proofs.XorOfBits.{alone, swapped, moved}
 use Rattle.words.proofs.steps.perm_words.Goals as goal
 
 pub returns : goal.returns
 returns c =
-    let c₃ = c in
-    let c₂ = c₃ in
-    let c₁ = c₂ in
-    let x₁ = swapped _ _ (alone tt c₁.fits.x.fits) c₁.swapmove_wide.ensures in
-    let x₃ = swapped _ _ (swapped _ _ x₁ c₂.swapmove_wide-2.ensures) c₃.swapmove_wide-3.ensures in
-    moved (swapped _ _ x₃ c.swapmove_wide-4.ensures) (λ _. 0) _ tt
+    let x₁ = swapped _ _ (alone tt c.ranges.x.fits) c.swapmove_wide-x1.ensures in
+    let x₃ = swapped _ _ (swapped _ _ x₁ c.swapmove_wide-x2.ensures) c.swapmove_wide-x3.ensures in
+    moved (swapped _ _ x₃ c.swapmove_wide.ensures) (λ _. 0) _ tt

@@ -6,5 +6,5 @@ use Rattle.words.proofs.steps.rotate.Goals as goal
 
 pub returns : goal.returns
 returns c =
-    let w = inputs c.args.t1 (λ j. search rules) in
+    let w = inputs c.args.k (λ j. search rules) in
     rearranges _ (w 1) (w 2) (w 3) (xored (shr (w 0) 1) (shl (w 0) 31)) tt tt tt tt tt
