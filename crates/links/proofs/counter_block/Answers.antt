@@ -8,13 +8,10 @@ use Rattle.links.proofs.counter_block.Goals as goal
 pub returns : goal.returns
 unfolding counter_block
 returns c =
-    let third = c in
-    let second = third in
-    let first = second in
-    let a = first.args in
+    let a = c.args in
     let n = big_endian-length number_size a.number in
     let s = big_endian-length sequence_most a.sequence in
     let i = big_endian-length index_size a.i in
-    third.put_number-3.ensures ∙ ap (put _ _) (second.put_number-2.ensures ∙ ap (put _ _) first.put_number.ensures)
+    c.put_number-3.ensures ∙ ap (put _ _) (c.put_number-2.ensures ∙ ap (put _ _) c.put_number.ensures)
     ∙ put_three (big_endian number_size a.number) (big_endian sequence_most a.sequence) (big_endian index_size a.i) _ _ _
     (omega arith) (omega arith) (omega arith)

@@ -6,33 +6,24 @@ use Rattle.blocks.proofs.Parts.{tab-list, fill_none, fill-length, fill_more, fil
 use Rattle.modes.proofs.{Pieces.piece-length, Written.part-⊕}
 use Rattle.modes.proofs.put_xor.Goals as goal
 
-size : (c : fn.Tie.At-loop Inv-loop μ-loop)
-    → c.width.result ≡ length
-    (piece c.args.j c.args.text.now)
-size c = c.width.ensures ∙ sym (piece-length _ c.args.text.now)
-
-kept : (c : fn.Tie.At-loop Inv-loop μ-loop) → length c.loop-i.out ≡ length c.args.out.now
-kept c = fill-length _ _ _ _ _ c.loop-i.invariant.1 (omega (arith, size c))
+pub loop-i-init : goal.loop-i-init
+loop-i-init c = (search rules, fill_none _ _ _)
 
 pub loop-i-preserved : goal.loop-i-preserved
 loop-i-preserved c =
-    let a = c.args in (
+    let a = c.args in
+    let size : c.width-n.result ≡ length (piece a.j a.text.now) = c.width-n.ensures ∙ sym (piece-length _ a.text.now) in (
       search rules,
-      fill_more _ _ _ _ _ _ c.loop-i.invariant.1 (omega (arith, size c))
-          (part-⊕ a.text.now a.t3 _ _ (omega arith) (omega arith) (search rules)),
+      fill_more _ _ _ _ _ _ c.loop-i.invariant.1 (omega arith)
+          (part-⊕ a.text.now a.key _ _ (omega arith) (omega arith) (search rules)),
     )
 
 pub returns : goal.returns
 returns c =
     let a = c.args in
-    let xs : List ℕ = piece a.j a.text.now ⊕ a.t3 in
-    let l : length a.t3 ≡ 16 = search rules in
+    let size : c.width-n.result ≡ length (piece a.j a.text.now) = c.width-n.ensures ∙ sym (piece-length _ a.text.now) in
+    let xs : List ℕ = piece a.j a.text.now ⊕ a.key in
+    let l : length a.key ≡ 16 = search rules in
     fill_done _ _ (length xs) _ _ _ c.loop-i.invariant.1
-    (omega (arith, size c, ⊕-length (piece a.j a.text.now) a.t3))
+    (omega (arith, ⊕-length (piece a.j a.text.now) a.key))
     ∙ ap (λ (z : List ℕ). put a.at z a.out.now) (tab-list xs)
-
--- LEFT 2 of 13: (λ c. (search rules, fill_none _ _ _))
-
--- LEFT 7 of 13: (λ c. omega (arith, size c, kept c))
-
--- LEFT 11 of 13: (λ c. kept c)

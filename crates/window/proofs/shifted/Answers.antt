@@ -4,11 +4,9 @@ use Rattle.window.specs.Window.{shifted}
 use Rattle.window.proofs.Word.{shifted-out}
 use Rattle.window.proofs.shifted.Goals as goal
 
-pub returns : goal.returns
-returns c = shifted-out c.args.word c.args.places (search rules)
+pub returns-then-places-ge-SPAN : goal.returns-then-places-ge-SPAN
+returns-then-places-ge-SPAN c = shifted-out c.args.word c.args.places (search rules)
 
-pub returns-2 : goal.returns-2
+pub returns-else-places-ge-SPAN : goal.returns-else-places-ge-SPAN
 unfolding shifted
-returns-2 c = refl
-
--- LEFT 0 of 3: (λ c. omega arith)
+returns-else-places-ge-SPAN c = refl

@@ -4,18 +4,21 @@ use Rattle.answers.proofs.First.{leaves-one, tests}
 use Rattle.links.proofs.Keying.{key-refused, key-done}
 use Rattle.links.proofs.Sender.key.Goals as goal
 
-pub returns-2 : goal.returns-2
-returns-2 c =
-    let km = c in
-    let a = km.args in
-    leaves-one (key-done _ _ (omega (arith, tests))) refl _ _
+pub returns-then-keys-ne96 : goal.returns-then-keys-ne96
+returns-then-keys-ne96 c =
+    let w = leaves-one (key-refused _ _ 0 tt (omega (arith, tests))) refl _ _ refl in
+    record { answer_value = w.0; link_value = w.1 }
+
+pub returns : goal.returns
+returns c =
+    let a = c.args in
+    let w = leaves-one (key-done _ _ (omega (arith, tests))) refl _ _
     (λ i. record {
       keyed = true;
       number = a.number;
       last = 0;
       width = c.told.ensures i;
-      ke = km.blocks_at.ensures i;
-      km = km.blocks_at-2.ensures i;
-    })
-
--- LEFT 0 of 5: (λ c. leaves-one (key-refused _ _ 0 tt (omega (arith, tests))) refl _ _ refl)
+      ke = c.blocks_at-ke.ensures i;
+      km = c.blocks_at-km.ensures i;
+    }) in
+    record { answer_value = w.0; link_value = w.1 }
