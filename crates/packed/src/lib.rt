@@ -1,5 +1,6 @@
 // BAKSHEESH on a block in packed form, and on its bytes.
 #![tactic(auto)]
+
 ghost use Rattle.std.specs.Prelude.{◌≡◌, ◌<◌};
 ghost use Rattle.baksheesh.specs.Baksheesh.{rounds, round, inv_round, encrypt, decrypt};
 ghost use Rattle.words.specs.Words.{unpacked};

@@ -1,6 +1,0 @@
--- `decrypt` meets its contract, on the packed forms. Assumes nothing.
-use Rattle.prelude.proofs.{rules}
-use Rattle.packed.proofs.decrypt.Goals as goal
-
-pub returns : goal.returns
-returns c = cc
