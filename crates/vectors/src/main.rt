@@ -1,5 +1,6 @@
 // The vectors of the paper's Table 14 by both engines, both ways.
 #![tactic(auto)]
+
 ghost use Rattle.std.specs.Prelude.{◌<◌};
 
 use engines::Cipher;
