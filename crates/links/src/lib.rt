@@ -25,7 +25,7 @@ pub const LONGEST: usize = 256;
 const TAG: usize = 16;
 
 // The form of a record: the bytes of its sequence number and of its tag.
-#[derive(Drop)]
+#[derive(Clone, Copy)]
 pub struct Form {
     pub sequence: usize,
     pub tag: usize,
@@ -52,7 +52,7 @@ impl Form {
 // ---- the width of a link
 
 // How many bytes its records have for their sequence numbers: four or eight.
-#[derive(Drop)]
+#[derive(Clone, Copy)]
 pub enum Width {
     Narrow,
     Wide,
@@ -102,7 +102,7 @@ pub fn usable(keyed: bool, width: Width, number: u64) -> bool
 // ---- the sending link
 
 // The link's number, the last sequence number used, its width, and the keys KE and KM as three shares each.
-#[derive(Drop)]
+#[derive(Clone, Copy)]
 pub struct Sender {
     pub keyed: bool,
     pub number: u32,

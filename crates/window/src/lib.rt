@@ -7,7 +7,7 @@ ghost use Rattle.window.specs.Window.{empty, below, repeated, shifted, after};
 const SPAN: u64 = 64;
 
 // The highest number accepted, and a word: its bit k says whether the number k below that one was.
-#[derive(Drop)]
+#[derive(Clone, Copy)]
 pub struct Window {
     pub highest: u64,
     pub accepted: u64,
