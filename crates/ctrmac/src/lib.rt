@@ -1,5 +1,6 @@
 // CTR and CMAC with the packed engine, under a whole key: what plain sealing and opening do with a text.
 #![tactic(auto)]
+
 ghost use Rattle.std.specs.Prelude.{◌≡◌, ◌++◌, ◌+◌, ◌-◌, ◌*◌, ◌≤◌, ◌<◌, length};
 ghost use Rattle.blocks.specs.Bytes.{put, piece};
 ghost use Rattle.baksheesh.specs.Baksheesh.{encrypt};

@@ -1,5 +1,4 @@
 -- `first_subkey` meets its contract. Assumes nothing.
-use Rattle.prelude.proofs.{rules}
 use Rattle.blocks.specs.Bytes.{zeros}
 use Rattle.modes.specs.Cmac.{subkey₁}
 use Rattle.ctrmac.proofs.first_subkey.Goals as goal

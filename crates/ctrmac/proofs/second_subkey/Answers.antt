@@ -1,5 +1,4 @@
 -- `second_subkey` meets its contract. Assumes nothing.
-use Rattle.prelude.proofs.{rules}
 use Rattle.modes.specs.Cmac.{subkey₂}
 use Rattle.ctrmac.proofs.second_subkey.Goals as goal
 
