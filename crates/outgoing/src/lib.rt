@@ -1,5 +1,6 @@
 // What leaves the shares: the record of a sealing, and a lane.
 #![tactic(auto)]
+
 ghost use Rattle.std.specs.Prelude.{◌≡◌, ◌+◌, ◌≤◌, ◌<◌, length, take};
 ghost use Rattle.blocks.specs.Bytes.{put};
 ghost use Rattle.links.specs.Record.{Proper, longest, record_size, record_of};

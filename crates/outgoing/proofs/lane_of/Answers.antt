@@ -1,5 +1,5 @@
 -- `lane_of` meets its contract: two shares of the state and one of the key, one behind the other. Assumes nothing.
-use Rattle.prelude.proofs.{◌≡◌, ap, ◌∙◌, List, ◌++◌, ℕ, ◌+◌, ◌*◌, ◌%◌, ◌<◌, arith, rules}
+use Rattle.prelude.proofs.{◌≡◌, ap, ◌∙◌, List, ◌++◌, ℕ, ◌+◌, ◌*◌, ◌%◌, ◌<◌, arith}
 use Rattle.blocks.specs.Bytes.{part}
 use Rattle.masking.specs.Shares.{index_of, flat}
 use Rattle.masking.proofs.Lane.{index-next, index-after, part-flat}
@@ -13,15 +13,11 @@ share t e k l h = h ∙ ap (part (16 * k) 16) e ∙ part-flat (shares_of t) (pac
 
 pub returns : goal.returns
 returns c =
-    let third = c in
-    let second = third in
-    let first = second in
-    let keys = first in
-    let a = keys.args in
+    let a = c.args in
     let i = a.i in
     let s = a.seen.state in
-    let bytes = keys.unpack_shares.ensures in
-    let next = share s bytes ((i + 1) % 3) (omega arith) first.block_at.ensures ∙ ap (shares_of s) (index-next i (omega arith)) in
-    let after = share s bytes ((i + 2) % 3) (omega arith) second.block_at-2.ensures ∙ ap (shares_of s) (index-after i (omega arith)) in
-    let key = share a.seen.key keys.unpack_shares-2.ensures i (omega arith) third.block_at-3.ensures in
+    let bytes = c.unpack_shares-states.ensures in
+    let next = share s bytes ((i + 1) % 3) (omega arith) c.block_at.ensures ∙ ap (shares_of s) (index-next i (omega arith)) in
+    let after = share s bytes ((i + 2) % 3) (omega arith) c.block_at-2.ensures ∙ ap (shares_of s) (index-after i (omega arith)) in
+    let key = share a.seen.key c.unpack_shares-keys.ensures i (omega arith) c.block_at-3.ensures in
     c.three_blocks.ensures ∙ λ j. next j ++ (after j ++ key j)

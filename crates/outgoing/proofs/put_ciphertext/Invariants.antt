@@ -9,7 +9,7 @@ use Rattle.outgoing.proofs.Stream.{joined-sized}
 use Rattle.outgoing.proofs.put_ciphertext.Given as goal
 
 abbrev pub invariant-loop-j : goal.invariant-loop-j
-invariant-loop-j l = (l.j ≤ l.count) × (l.out ≡ written (λ b. b) (λ l.j. join (out_at l.j l.outs)) l.message l.at l.initial.out l.j)
+invariant-loop-j l = (l.j ≤ l.count) × (l.out ≡ written (λ b. b) (λ j. join (out_at j l.outs)) l.message l.at l.initial.out l.j)
 
 abbrev pub decreases-loop-j : goal.decreases-loop-j
 decreases-loop-j l = l.count - l.j
