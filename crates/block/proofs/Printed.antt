@@ -4,7 +4,7 @@ use Rattle.prelude.proofs.{take-take, take-add, drop_at, length-take-le, eq-eqb,
 use Rattle.blocks.specs.Bytes.{part, put}
 use Rattle.blocks.proofs.Parts.{put-put}
 use Rattle.baksheesh.specs.Baksheesh.{encrypt}
-use Rattle.hex.specs.Hex.{hex_of}
+use Rattle.hex_digits.specs.Hex.{hex_of}
 use Rattle.block.specs.Printed.{printed}
 
 -- what `answer` ensures, where it writes the text p

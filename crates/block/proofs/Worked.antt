@@ -5,7 +5,7 @@ use Rattle.bits.specs.Bit.{bit}
 use Rattle.blocks.specs.Bytes.{◌⊕◌, tab, big_endian}
 use Rattle.blocks.specs.Bits.{block_of, bit_at, cells, rearranged, each_cell}
 use Rattle.baksheesh.specs.Baksheesh.{constant, after, encrypt}
-use Rattle.hex.specs.Hex.{glyph, hex_of}
+use Rattle.hex_digits.specs.Hex.{glyph, hex_of}
 use Rattle.block.specs.Printed.{printed}
 
 -- fc7e61fe e3d58730 8ca7bc59 4ebf3244 in ASCII, without a space, and a line feed

@@ -1,7 +1,7 @@
 -- What the program prints. Assumes nothing.
 use Rattle.std.specs.Prelude.{cond, List, [], ◌∷◌, ◌++◌, ℕ, eqb, length, take, drop}
 use Rattle.baksheesh.specs.Baksheesh.{encrypt}
-use Rattle.hex.specs.Hex.{hex_of}
+use Rattle.hex_digits.specs.Hex.{hex_of}
 
 -- for key and block the ciphertext's digits, else `length`; then a line feed
 unfoldable pub printed : List ℕ → List ℕ

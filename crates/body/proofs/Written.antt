@@ -206,7 +206,7 @@ unfolding write_answer
 stored-read-written m o v a h =
     let none = accepts-none (write_causes m (length o)) _ tt a in
     let said = sym (read-written m (not-false (fits m) none.0)) in
-    let put' = sym (if-done (done_none (write_causes m (length o)) _ none) _ o) in
+    let put' : write_output m o ≡ put 0 (written m) o = sym (if-done (done_none (write_causes m (length o)) _ none) _ o) in
     let body = ap (take (length (written m))) put' ∙ part-there 0 (written m) o (omega arith) _ refl in
     ap (λ (b : List ℕ). values_output b v) body
     ∙ sym (if-done (values-done (written m) (length v) said h) _ v)

@@ -1,6 +1,7 @@
 // The body of a mark: words of 32 bits, each with its kind in the top four and a field in the others. What reading and writing
 // one answer, and the local offset in two's complement.
 #![tactic(auto)]
+
 ghost use Rattle.std.specs.Prelude.{◌≡◌, ◌<◌};
 ghost use Rattle.std.specs.Int.Signed.{mag};
 ghost use Rattle.answers.specs.Answer.{number_of};

@@ -1,5 +1,6 @@
 // What CMAC's calls take in, on shares: the blocks of what is authenticated, and the last one's subkey.
 #![tactic(auto)]
+
 ghost use Rattle.std.specs.Prelude.{◌≡◌, ◌+◌, ◌*◌, ◌≤◌, ◌<◌, length};
 ghost use Rattle.blocks.specs.Bytes.{part, block_count, piece};
 ghost use Rattle.modes.specs.Cmac.{doubled};

@@ -1,5 +1,6 @@
 // Blocks into the packed form and back, by delta swaps.
 #![tactic(auto)]
+
 ghost use Rattle.std.specs.Prelude.{◌≡◌, [], ◌∷◌};
 ghost use Rattle.blocks.specs.Bits.{rearranged};
 ghost use Rattle.words.specs.Words.{unpacked};

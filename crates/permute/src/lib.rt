@@ -1,5 +1,6 @@
 // PermBits on the 16 bytes of a block, and back: in words, by delta swaps.
 #![tactic(auto)]
+
 ghost use Rattle.std.specs.Prelude.{◌≡◌, ℕ, ◌+◌, ◌-◌, ◌*◌, ◌/◌, ◌%◌, ◌<◌, get_or};
 ghost use Rattle.bits.specs.Bit.{bit};
 ghost use Rattle.baksheesh.specs.Baksheesh.{perm_bits, inv_perm_bits};

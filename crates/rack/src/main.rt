@@ -1,25 +1,33 @@
 // A rack's main loop: one sending link through sealings that are done and sealings that are refused. Prints each record in
 // hexadecimal digits, or the refusal's number.
 #![tactic(auto)]
+
 ghost use Rattle.std.specs.Prelude.{◌≡◌, ◌≤◌, length};
 ghost use Rattle.calls.specs.Entry.{seal_link};
 
 use links::Sender;
 use sealing::SealAnswer;
+use std::io;
 
-// Seals, prints what came of it, and hands the link back.
-fn turn(link: Sender, message: &[u8], tape: &[u8], out: &mut [u8]) -> Sender
-    ensures { result ≡ seal_link link message.now tape.now (length out.old) }
+// Seals on the lent link, and prints what came of it.
+fn turn(
+    rt: &impl Print,
+    link: &mut Sender,
+    message: &[u8],
+    tape: &[u8],
+    out: &mut [u8],
+) -> io::Result<()>
+    ensures { link.new ≡ seal_link link.old message.now tape.now (length out.old) }
 {
-    let done = lent::seal_through(link, message, tape, out);
+    let done = lent::seal_through(*link, message, tape, out);
     let answer = done.answer;
-    if let SealAnswer::Sealed { len, used: _ } = answer {
-        show::front(out, len);
-    } else {
-        show::tried(b"", answer.number() as u64);
-    }
     let next = done.link;
-    next
+    *link = next;
+    if let SealAnswer::Sealed { len, used: _ } = answer {
+        show::front(rt, out, len)
+    } else {
+        show::tried(rt, b"", answer.number() as u64)
+    }
 }
 
 // The lengths of message, tape and output.
@@ -59,11 +67,12 @@ fn asked(i: usize) -> Lengths
 }
 
 // Turns on a fresh link and, once it is keyed, one after the other.
-fn turns(keys: &[u8], message: &[u8], tape: &[u8])
+fn turns(rt: &impl Print, keys: &[u8], message: &[u8], tape: &[u8]) -> io::Result<()>
     requires { (257 ≤ length message.now) × (39232 ≤ length tape.now) }
 {
     let mut out = [0u8; 280];
-    let fresh = turn(Sender::fresh(), message, tape, &mut out);
+    let mut fresh = Sender::fresh();
+    turn(rt, &mut fresh, message, tape, &mut out)?;
     let keyed = fresh.key(0x01020304, 0, keys);
     let mut link = keyed.link;
     for i in 0..12 {
@@ -71,17 +80,17 @@ fn turns(keys: &[u8], message: &[u8], tape: &[u8])
         let m = n.message;
         let t = n.tape;
         let o = n.out;
-        let next = turn(link, &message[..m], &tape[..t], &mut out[..o]);
-        link = next;
+        turn(rt, &mut link, &message[..m], &tape[..t], &mut out[..o])?;
     }
+    Ok(())
 }
 
-fn main() {
+fn main(rt: HostRuntime) -> io::Result<()> {
     let mut keys = [0u8; 96];
     let mut message = [0u8; 257];
     let mut tape = [0u8; 39232];
     show::fill(&mut keys, 11, 37);
     show::fill(&mut message, 3, 7);
     show::fill(&mut tape, 5, 13);
-    turns(&keys, &message, &tape);
+    turns(&rt, &keys, &message, &tape)
 }

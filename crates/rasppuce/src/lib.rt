@@ -17,7 +17,6 @@ use engines::Cipher;
 
 // ---- block calls
 
-#[unsafe(no_mangle)]
 pub extern "C" fn rasppuce_encrypt_table(key: &[u8], input: &[u8], output: &mut [u8]) -> u32
     ensures value { result ≡ number_of (block_answer key.now input.now output.old) }
     ensures output_after { output.new ≡ block_output encrypt key.now input.now output.old }
@@ -25,7 +24,6 @@ pub extern "C" fn rasppuce_encrypt_table(key: &[u8], input: &[u8], output: &mut 
     engines::call(Cipher::EncryptTable, key, input, output).number()
 }
 
-#[unsafe(no_mangle)]
 pub extern "C" fn rasppuce_encrypt_packed(key: &[u8], input: &[u8], output: &mut [u8]) -> u32
     ensures value { result ≡ number_of (block_answer key.now input.now output.old) }
     ensures output_after { output.new ≡ block_output encrypt key.now input.now output.old }
@@ -33,7 +31,6 @@ pub extern "C" fn rasppuce_encrypt_packed(key: &[u8], input: &[u8], output: &mut
     engines::call(Cipher::EncryptPacked, key, input, output).number()
 }
 
-#[unsafe(no_mangle)]
 pub extern "C" fn rasppuce_decrypt_table(key: &[u8], input: &[u8], output: &mut [u8]) -> u32
     ensures value { result ≡ number_of (block_answer key.now input.now output.old) }
     ensures output_after { output.new ≡ block_output decrypt key.now input.now output.old }
@@ -41,7 +38,6 @@ pub extern "C" fn rasppuce_decrypt_table(key: &[u8], input: &[u8], output: &mut 
     engines::call(Cipher::DecryptTable, key, input, output).number()
 }
 
-#[unsafe(no_mangle)]
 pub extern "C" fn rasppuce_decrypt_packed(key: &[u8], input: &[u8], output: &mut [u8]) -> u32
     ensures value { result ≡ number_of (block_answer key.now input.now output.old) }
     ensures output_after { output.new ≡ block_output decrypt key.now input.now output.old }
@@ -52,7 +48,6 @@ pub extern "C" fn rasppuce_decrypt_packed(key: &[u8], input: &[u8], output: &mut
 // ---- the calls on a sending link
 
 // Keys a sending link, narrow where it is told 0: three shares of KE, then three of KM.
-#[unsafe(no_mangle)]
 pub extern "C" fn rasppuce_key_sender(link: &mut [u8], number: u32, wide: u32, keys: &[u8]) -> u32
     ensures value { result ≡ number_of (sender_keying link.old keys.now) }
     ensures link_after { link.new ≡ keyed_sender link.old number wide keys.now }
@@ -61,7 +56,6 @@ pub extern "C" fn rasppuce_key_sender(link: &mut [u8], number: u32, wide: u32, k
 }
 
 // Seals a message on shares, with the masks of the tape.
-#[unsafe(no_mangle)]
 pub extern "C" fn rasppuce_seal(
     link: &mut [u8],
     message: &[u8],
@@ -84,7 +78,6 @@ pub extern "C" fn rasppuce_seal(
 }
 
 // Writes a lane of the sealing that the link would do next.
-#[unsafe(no_mangle)]
 pub extern "C" fn rasppuce_report(
     link: &[u8],
     message: &[u8],
@@ -104,7 +97,6 @@ pub extern "C" fn rasppuce_report(
 }
 
 // Seals a message plainly, into a narrow record where it is told 0: KE, then KM.
-#[unsafe(no_mangle)]
 pub extern "C" fn rasppuce_seal_plain(
     keys: &[u8],
     number: u32,
@@ -124,7 +116,6 @@ pub extern "C" fn rasppuce_seal_plain(
 // ---- the calls on a receiving link
 
 // Keys a receiving link, narrow where it is told 0: KE, then KM.
-#[unsafe(no_mangle)]
 pub extern "C" fn rasppuce_key_receiver(link: &mut [u8], number: u32, wide: u32, keys: &[u8]) -> u32
     ensures value { result ≡ number_of (receiver_keying link.old keys.now) }
     ensures link_after { link.new ≡ keyed_receiver link.old number wide keys.now }
@@ -133,7 +124,6 @@ pub extern "C" fn rasppuce_key_receiver(link: &mut [u8], number: u32, wide: u32,
 }
 
 // Opens a record.
-#[unsafe(no_mangle)]
 pub extern "C" fn rasppuce_open(link: &mut [u8], sealed: &[u8], out: &mut [u8]) -> u32
     ensures value { result ≡ number_of (opened_answer link.old sealed.now (length out.old)) }
     ensures link_after { link.new ≡ opened_link link.old sealed.now (length out.old) }
@@ -145,7 +135,6 @@ pub extern "C" fn rasppuce_open(link: &mut [u8], sealed: &[u8], out: &mut [u8]) 
 // ---- the body of a mark
 
 // Reads a body: the values of its mark.
-#[unsafe(no_mangle)]
 pub extern "C" fn rasppuce_read_body(body: &[u8], values: &mut [u8]) -> u32
     ensures value { result ≡ number_of (values_answer body.now (length values.old)) }
     ensures values_after { values.new ≡ values_output body.now values.old }
@@ -154,7 +143,6 @@ pub extern "C" fn rasppuce_read_body(body: &[u8], values: &mut [u8]) -> u32
 }
 
 // Writes the body of a mark; where `given` is 0 it has no offset.
-#[unsafe(no_mangle)]
 pub extern "C" fn rasppuce_write_body(
     seconds: u64,
     fraction: u32,

@@ -1,5 +1,6 @@
 // Round keys and constants on the 16 bytes of a block.
 #![tactic(auto)]
+
 ghost use Rattle.std.specs.Prelude.{◌≡◌, ◌%◌, ◌<◌};
 ghost use Rattle.blocks.specs.Bytes.{◌⊕◌};
 ghost use Rattle.baksheesh.specs.Baksheesh.{rounds, constant, rotated};

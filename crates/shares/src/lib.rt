@@ -1,5 +1,6 @@
 // BAKSHEESH on three XOR shares in packed form.
 #![tactic(auto)]
+
 ghost use Rattle.std.specs.Prelude.{◌≡◌, cond, ◌+◌, ◌-◌, ◌*◌, ◌≤◌, ◌<◌, ltb, length};
 ghost use Rattle.baksheesh.specs.Baksheesh.{rounds, rotated};
 ghost use Rattle.words.specs.Words.{unpacked};
@@ -13,7 +14,7 @@ use packing::{pack, unpack};
 use words::steps::{add, add_constants, perm_bits, rotate};
 
 // Three shares of a block, each in packed form. No other crate reaches one of them alone: what it does, it does share by share.
-#[derive(Drop)]
+#[derive(Clone, Copy)]
 pub struct Triple {
     a: [u32; 4],
     b: [u32; 4],
@@ -154,7 +155,7 @@ pub const PAIRS: usize = ROUNDS + 1;
 pub const CALL: usize = PAIR * PAIRS;
 
 // A pair of masks, and the count of tape bytes read with it.
-#[derive(Drop)]
+#[derive(Clone, Copy)]
 pub struct Drawn {
     u: [u32; 4],
     v: [u32; 4],

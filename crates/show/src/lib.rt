@@ -1,6 +1,7 @@
 // What the programs print, and the bytes that they work on.
 #![tactic(auto)]
-use libc::STDOUT_FILENO;
+
+use std::io;
 
 fn wide(x: u8) -> u64 {
     x as u64
@@ -17,41 +18,42 @@ pub fn fill(out: &mut [u8], first: u8, step: u8) {
     }
 }
 
-pub fn word(text: &[u8]) {
-    io::write_all(STDOUT_FILENO, text);
+pub fn word(rt: &impl Print, text: &[u8]) -> io::Result<()> {
+    rt.write_all(text)
 }
 
 // A number in decimal digits, and a space.
-pub fn number(n: u64) {
-    io::print_decimal(STDOUT_FILENO, n);
-    word(b" ");
+pub fn number(rt: &impl Print, n: u64) -> io::Result<()> {
+    rt.print(n)?;
+    word(rt, b" ")
 }
 
 // Bytes in hexadecimal digits, or `-` for none; they end the line.
-pub fn bytes(s: &[u8]) {
+pub fn bytes(rt: &impl Print, s: &[u8]) -> io::Result<()> {
     if s.len() == 0 {
-        word(b"-");
+        word(rt, b"-")?;
     }
     let mut i = 0;
     while i < s.len() {
-        io::print_hex(STDOUT_FILENO, wide(s[i]), 2);
+        let x = wide(s[i]);
+        print!(rt; "{x:02x}")?;
         i += 1;
     }
-    word(b"\n");
+    word(rt, b"\n")
 }
 
 // The first n of the bytes, or all of them where there are fewer.
-pub fn front(s: &[u8], n: usize) {
+pub fn front(rt: &impl Print, s: &[u8], n: usize) -> io::Result<()> {
     if n < s.len() {
-        bytes(&s[..n]);
+        bytes(rt, &s[..n])
     } else {
-        bytes(s);
+        bytes(rt, s)
     }
 }
 
 // What was tried, and the number that it gave.
-pub fn tried(what: &[u8], n: u64) {
-    word(what);
-    io::print_decimal(STDOUT_FILENO, n);
-    word(b"\n");
+pub fn tried(rt: &impl Print, what: &[u8], n: u64) -> io::Result<()> {
+    word(rt, what)?;
+    rt.print(n)?;
+    word(rt, b"\n")
 }

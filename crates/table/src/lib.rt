@@ -1,5 +1,6 @@
 // BAKSHEESH by byte tables.
 #![tactic(auto)]
+
 ghost use Rattle.std.specs.Prelude.{◌≡◌, ◌<◌};
 ghost use Rattle.baksheesh.specs.Baksheesh.{rounds, round, inv_round, encrypt, decrypt};
 

@@ -1,9 +1,10 @@
 // The vectors of the paper's Table 14 by both engines, both ways.
 #![tactic(auto)]
+
 ghost use Rattle.std.specs.Prelude.{◌<◌};
 
 use engines::Cipher;
-use libc::STDOUT_FILENO;
+use std::io;
 
 // Key, plaintext and ciphertext of each vector.
 const VECTORS: [u8; 384] = *b"\
@@ -32,12 +33,12 @@ const VECTORS: [u8; 384] = *b"\
     \xe6\x51\x75\x31\xab\xf6\x3f\x3d\x78\x05\xe1\x26\x94\x3a\x08\x1c\
     \xfc\x7e\x61\xfe\xe3\xd5\x87\x30\x8c\xa7\xbc\x59\x4e\xbf\x32\x44";
 
-fn line(number: u8, label: &[u8], block: [u8; 16]) {
-    let text = hex::digits(block);
-    io::write_all(STDOUT_FILENO, &[number]);
-    io::write_all(STDOUT_FILENO, label);
-    io::write_all(STDOUT_FILENO, &text);
-    io::write_all(STDOUT_FILENO, b"\n");
+fn line(rt: &impl Print, number: u8, label: &[u8], block: [u8; 16]) -> io::Result<()> {
+    let text = hex_digits::digits(block);
+    rt.write_all(&[number])?;
+    rt.write_all(label)?;
+    rt.write_all(&text)?;
+    rt.write_all(b"\n")
 }
 
 fn run(cipher: Cipher, key: [u8; 16], block: [u8; 16]) -> [u8; 16] {
@@ -47,22 +48,23 @@ fn run(cipher: Cipher, key: [u8; 16], block: [u8; 16]) -> [u8; 16] {
 }
 
 // Runs vector i.
-fn vector(vectors: &[u8; 384], i: usize)
+fn vector(rt: &impl Print, vectors: &[u8; 384], i: usize) -> io::Result<()>
     requires { i < 8 }
 {
     let n = b'1' + i as u8;
     let k = blocks::block_at(vectors, 48 * i);
     let x = blocks::block_at(vectors, 48 * i + 16);
     let y = blocks::block_at(vectors, 48 * i + 32);
-    line(n, b" encrypt table ", run(Cipher::EncryptTable, k, x));
-    line(n, b" decrypt table ", run(Cipher::DecryptTable, k, y));
-    line(n, b" encrypt packed ", run(Cipher::EncryptPacked, k, x));
-    line(n, b" decrypt packed ", run(Cipher::DecryptPacked, k, y));
+    line(rt, n, b" encrypt table ", run(Cipher::EncryptTable, k, x))?;
+    line(rt, n, b" decrypt table ", run(Cipher::DecryptTable, k, y))?;
+    line(rt, n, b" encrypt packed ", run(Cipher::EncryptPacked, k, x))?;
+    line(rt, n, b" decrypt packed ", run(Cipher::DecryptPacked, k, y))
 }
 
-fn main() {
+fn main(rt: HostRuntime) -> io::Result<()> {
     let vectors = VECTORS;
     for i in 0..8 {
-        vector(&vectors, i);
+        vector(&rt, &vectors, i)?;
     }
+    Ok(())
 }

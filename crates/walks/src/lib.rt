@@ -1,5 +1,6 @@
 // The calls of a run on shares, one after the other; one pair of masks of one call is watched. The test of a lane's numbers.
 #![tactic(auto)]
+
 ghost use Rattle.std.specs.Prelude.{◌≡◌, [], ◌+◌, ◌≤◌, ◌<◌, ◌^◌, length};
 ghost use Rattle.answers.specs.Answer.{done, first};
 ghost use Rattle.masking.specs.Shares.{shares_in, add as add_shares, at, pair_size, masks_at};

@@ -1,5 +1,5 @@
 -- `cut_block` meets its contract: the first bytes written over zeros. Assumes nothing.
-use Rattle.prelude.proofs.{◌∙◌, arith, length-take, length-drop, rules}
+use Rattle.prelude.proofs.{◌∙◌, arith}
 use Rattle.inputs.proofs.Texts.{cut-written}
 use Rattle.inputs.proofs.cut_block.Goals as goal
 
@@ -7,5 +7,3 @@ pub returns : goal.returns
 returns c =
     let a = c.args in
     c.put_bytes.ensures ∙ cut-written a.at a.n a.s.now (omega arith) (omega arith)
-
--- LEFT 5 of 7: (λ c κs. simp (length-take, length-drop) (omega arith))

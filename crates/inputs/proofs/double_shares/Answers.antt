@@ -9,16 +9,11 @@ use Rattle.inputs.proofs.double_shares.Goals as goal
 
 pub returns : goal.returns
 returns c =
-    let made = c in
-    let third = made in
-    let second = third in
-    let first = second in
-    let bytes = first in
-    let s = bytes.args.s in
+    let s = c.args.s in
     c.pack_shares.ensures
-    ∙ ap shares_in made.three_blocks.ensures
+    ∙ ap shares_in c.three_blocks.ensures
     ∙ three_back _ _ _ (search rules) (search rules) (search rules)
-    ∙ shares-same (first.double.ensures ∙ ap doubled first.block_at.ensures)
-    (second.double-2.ensures ∙ ap doubled second.block_at-2.ensures)
-    (third.double-3.ensures ∙ ap doubled third.block_at-3.ensures)
-    ∙ ap (each doubled) (ap shares_in bytes.unpack_shares.ensures ∙ shares-flat (shares_of s) (packed-blocks s))
+    ∙ shares-same (c.double.ensures ∙ ap doubled c.block_at.ensures)
+    (c.double-2.ensures ∙ ap doubled c.block_at-2.ensures)
+    (c.double-3.ensures ∙ ap doubled c.block_at-3.ensures)
+    ∙ ap (each doubled) (ap shares_in c.unpack_shares-b.ensures ∙ shares-flat (shares_of s) (packed-blocks s))

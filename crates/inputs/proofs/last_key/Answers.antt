@@ -6,13 +6,13 @@ use Rattle.shares.specs.Packed.{shares_of}
 use Rattle.inputs.proofs.Texts.{key-once, key_twice}
 use Rattle.inputs.proofs.last_key.Goals as goal
 
+pub returns-then-len-eq0 : goal.returns-then-len-eq0
+returns-then-len-eq0 c =
+    let a = c.args in
+    key-once a.len (shares_of a.s) _ (search rules) c.double_shares-first.ensures
+
 pub returns : goal.returns
 returns c =
     let a = c.args in
-    key-once a.len (shares_of a.s) _ (search rules) c.double_shares.ensures
-
-pub returns-2 : goal.returns-2
-returns-2 c =
-    let a = c.args in
     key_twice a.len (shares_of a.s) _ (search rules)
-    (c.double_shares-2.ensures ∙ ap (each doubled) c.double_shares.ensures)
+    (c.double_shares.ensures ∙ ap (each doubled) c.double_shares-first.ensures)

@@ -1,6 +1,6 @@
 -- `encrypt_words` meets its contract. Before round n + 1 the state is the definition's after n rounds, and the key is rotated by n + 1.
 -- Assumes nothing.
-use Rattle.prelude.proofs.{◌≡◌, refl, ap, ◌∙◌, ℕ, suc, add-one, arith}
+use Rattle.prelude.proofs.{◌≡◌, refl, ap, ◌∙◌, suc, add-one, arith}
 use Rattle.baksheesh.specs.Baksheesh.{rounds, rotated, round, after, encrypt}
 use Rattle.baksheesh.proofs.Steps.{rotated-suc}
 use Rattle.words.specs.Words.{unpacked}

@@ -1,9 +1,6 @@
 -- `inv_perm_bits` meets its contract: one test of where each bit comes from. Assumes nothing.
-use Rattle.prelude.proofs.{◌∙◌, ◌-◌, ◌*◌, ◌/◌, ◌%◌, ◌^◌, arith, get_or, rules}
-use Rattle.blocks.proofs.{Parts.all_none, Parts.all_more, Parts.all_done, ByBytes.Written}
-use Rattle.baksheesh.specs.Baksheesh.{to}
-use Rattle.permute.specs.InWord.{to_in_word}
-use Rattle.permute.proofs.Moved.{tab-words}
+use Rattle.prelude.proofs.{◌-◌, ◌*◌, ◌/◌, ◌%◌, ◌^◌, get_or}
+use Rattle.blocks.proofs.ByBytes.{Written}
 use Rattle.permute.proofs.inv_perm_bits.Given as goal
 
 abbrev pub invariant-loop-i : goal.invariant-loop-i

@@ -1,25 +1,21 @@
 -- `perm_bits` meets its contract: one test of where each bit comes from. Assumes nothing.
-use Rattle.prelude.proofs.{◌∙◌, ◌-◌, ◌*◌, ◌/◌, ◌%◌, ◌^◌, arith, get_or, rules}
-use Rattle.blocks.proofs.{Parts.all_none, Parts.all_more, Parts.all_done, ByBytes.Written}
+use Rattle.prelude.proofs.{◌∙◌, ◌-◌, ◌*◌, ◌/◌, ◌%◌, arith, rules}
+use Rattle.blocks.proofs.{Parts.all_none, Parts.all_more, Parts.all_done}
 use Rattle.baksheesh.specs.Baksheesh.{from}
 use Rattle.permute.specs.InWord.{from_in_word}
 use Rattle.permute.proofs.Moved.{tab-words}
 use Rattle.permute.proofs.perm_bits.Goals as goal
+
+pub loop-i-init : goal.loop-i-init
+loop-i-init c = (omega arith, all_none _ _)
 
 pub loop-i-preserved : goal.loop-i-preserved
 loop-i-preserved c = (omega arith, all_more _ _ _ _ _ c.loop-i.invariant.1 (search rules) c.byte.ensures)
 
 pub returns : goal.returns
 returns c =
-    let w4 = c in
-    let w3 = w4 in
-    let w2 = w3 in
-    let w1 = w2 in
-    let w0 = w1 in
     all_done _ 16 _ _ _ c.loop-i.invariant.1 (omega arith) (search rules)
-    ∙ tab-words w0.args.s (λ j. 4 * j) 1 from_in_word (λ k. k % 4) (λ k. 8 * (3 - k / 4)) from _ _ _ _ _ _ _ _
-    w1.word.ensures w2.word-2.ensures w3.word-3.ensures w4.word-4.ensures
-    w1.move_word.ensures w2.move_word-2.ensures w3.move_word-3.ensures w4.move_word-4.ensures
+    ∙ tab-words c.args.s (λ j. 4 * j) 1 from_in_word (λ k. k % 4) (λ k. 8 * (3 - k / 4)) from _ _ _ _ _ _ _ _
+    c.word.ensures c.word-2.ensures c.word-3.ensures c.word-4.ensures
+    c.move_word.ensures c.move_word-2.ensures c.move_word-3.ensures c.move_word-4.ensures
     tt (λ k h. omega arith) (λ k. omega arith) tt tt
-
--- LEFT 8 of 19: (λ c. (omega arith, all_none _ _))

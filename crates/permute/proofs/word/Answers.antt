@@ -7,7 +7,7 @@ use Rattle.permute.proofs.word.Goals as goal
 
 pub returns : goal.returns
 returns c =
-    let s : List ℕ = c.args.t1 in
+    let s : List ℕ = c.args.s in
     let i = c.args.i in
     let n = c.args.n in
     let f : (k : ℕ) → Fits w8 (get_or s k 0) = λ k. search rules in

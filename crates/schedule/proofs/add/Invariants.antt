@@ -1,6 +1,6 @@
 -- `add` meets its contract. Before byte i, the bytes below i are added. Assumes nothing.
-use Rattle.prelude.proofs.{refl, ◌∙◌, ◌-◌, arith, bit_xor, get_or, rules}
-use Rattle.blocks.proofs.{Parts.all_none, Parts.all_more, Parts.all_done, ByBytes.Written, ByBytes.tab-⊕}
+use Rattle.prelude.proofs.{◌-◌, bit_xor, get_or}
+use Rattle.blocks.proofs.ByBytes.{Written}
 use Rattle.schedule.proofs.add.Given as goal
 
 abbrev pub invariant-loop-i : goal.invariant-loop-i

@@ -1,5 +1,5 @@
 -- `constant` meets its contract: one test of each byte of each constant. Assumes nothing.
-use Rattle.prelude.proofs.{refl, List, [], ◌∷◌, ℕ, ◌*◌, ◌/◌, ◌%◌, bit_xor, bit_and, get_or, ext_get_or, rules}
+use Rattle.prelude.proofs.{refl, List, [], ◌∷◌, ℕ, ◌*◌, ◌/◌, ◌%◌, bit_xor, bit_and, get_or, ext_get_or}
 use Rattle.bits.specs.Bit.{bit}
 use Rattle.bits.proofs.Test.{agree²}
 use Rattle.blocks.specs.Bits.{block_of}

@@ -1,5 +1,5 @@
 -- `run_rounds` meets its contract. The loop has done the rounds up to the one numbered n. Assumes nothing.
-use Rattle.prelude.proofs.{◌≡◌, sym, ap, ◌∙◌, ℕ, suc, ◌+◌, ◌-◌, ◌*◌, ◌≤◌, arith, rules}
+use Rattle.prelude.proofs.{◌≡◌, sym, ap, ◌∙◌, ℕ, suc, ◌+◌, ◌-◌, ◌*◌, arith}
 use Rattle.baksheesh.specs.Baksheesh.{rotated}
 use Rattle.masking.specs.Shares.{add, each, at, pair_size}
 use Rattle.shares.specs.Packed.{shares_of, onward}
@@ -19,22 +19,19 @@ loop-n-init c =
 
 pub loop-n-preserved : goal.loop-n-preserved
 loop-n-preserved c =
-    let r = c in
-    let d = r in
-    let k = d in
-    let l = k.loop-n in
-    let a = k.args in
+    let l = c.loop-n in
+    let a = c.args in
     let n : ℕ = l.n - a.from in
     let M = at a.tape.now in
     let more : suc n ≡ l.n + 1 - a.from = omega arith in
-    let masked = c.mask.ensures ∙ ap (add _) d.draw.ensures.0 in
+    let masked = c.mask-met.ensures ∙ ap (add _) c.draw-pair.ensures.masks in
     let went = onward-more M a.used a.from (shares_of a.s) (shares_of a.k) n l.n l.read _ _ _ _ _
-    l.invariant.2 l.invariant.3 k.rotate_shares.ensures (omega arith) r.share_round.ensures l.invariant.4 masked in (
+    l.invariant.2 l.invariant.3 c.rotate_shares-turned.ensures (omega arith) c.share_round.ensures l.invariant.4 masked in (
       omega arith,
       omega arith,
       went.0 ∙ ap (onward M a.used a.from (shares_of a.s) (shares_of a.k)) more,
       went.1 ∙ ap (λ (n : ℕ). each (rotated n) (shares_of a.k)) more,
-      omega (arith, d.draw.ensures.1, l.invariant.4),
+      omega arith,
     )
 
 pub returns : goal.returns
@@ -47,11 +44,3 @@ returns c =
       key = l.invariant.3 ∙ ap (λ (n : ℕ). each (rotated n) (shares_of a.k)) e;
       used = l.invariant.4 ∙ ap (λ (n : ℕ). a.used + pair_size * n) e;
     }
-
--- LEFT 2 of 9: (λ c κs. omega arith)
-
--- LEFT 3 of 9: (λ c κs. omega arith)
-
--- LEFT 5 of 9: (λ c. omega arith)
-
--- LEFT 6 of 9: (λ c. omega arith)

@@ -1,9 +1,6 @@
 -- `bytes` is safe and ends. Assumes nothing.
-use Rattle.prelude.proofs.{◌-◌, ◌≤◌, length, rules}
+use Rattle.prelude.proofs.{◌-◌, length}
 use Rattle.show.proofs.bytes.Given as goal
 
-abbrev pub invariant-loop-i : goal.invariant-loop-i
-invariant-loop-i l = l.i ≤ length l.s
-
 abbrev pub decreases-loop-i : goal.decreases-loop-i
-decreases-loop-i l = length l.s - l.i
+decreases-loop-i g l = length l.s - l.i

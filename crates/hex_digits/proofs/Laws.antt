@@ -3,7 +3,7 @@ use Rattle.prelude.proofs.{◌≡◌, refl, ap, sym, ◌∙◌, List, [], ◌∷
 use Rattle.prelude.proofs.{get_or, length-take-le, take-suc, take_all}
 use Rattle.blocks.specs.Bytes.{put}
 use Rattle.blocks.proofs.Parts.{put-none, put-length, put-put, put-set, put_one}
-use Rattle.hex.specs.Hex.{glyph, hex_of}
+use Rattle.hex_digits.specs.Hex.{glyph, hex_of}
 
 pub hex-length : (s : List ℕ) → length (hex_of s) ≡ 2 * length s
 unfolding hex_of

@@ -1,8 +1,9 @@
 // Bytes in lower-case hexadecimal digits.
 #![tactic(auto)]
+
 ghost use Rattle.std.specs.Prelude.{◌≡◌, [], ◌∷◌, ◌+◌, ◌*◌, ◌/◌, ◌%◌, ◌≤◌, ◌<◌, length};
 ghost use Rattle.blocks.specs.Bytes.{put};
-ghost use Rattle.hex.specs.Hex.{glyph, hex_of};
+ghost use Rattle.hex_digits.specs.Hex.{glyph, hex_of};
 
 fn digit(d: u8) -> u8
     requires { d < 16 }

@@ -1,9 +1,0 @@
--- `main` is safe and ends. Assumes nothing.
-use Rattle.prelude.proofs.{◌-◌, ◌≤◌, rules}
-use Rattle.lanes.proofs.main.Given as goal
-
-abbrev pub invariant-loop-i : goal.invariant-loop-i
-invariant-loop-i l = l.i ≤ 7
-
-abbrev pub decreases-loop-i : goal.decreases-loop-i
-decreases-loop-i l = 7 - l.i

@@ -1,9 +1,0 @@
--- `refused_lanes` is safe and ends. Assumes nothing.
-use Rattle.prelude.proofs.{◌-◌, ◌≤◌, rules}
-use Rattle.lanes.proofs.refused_lanes.Given as goal
-
-abbrev pub invariant-loop-k : goal.invariant-loop-k
-invariant-loop-k l = l.k ≤ 8
-
-abbrev pub decreases-loop-k : goal.decreases-loop-k
-decreases-loop-k l = 8 - l.k

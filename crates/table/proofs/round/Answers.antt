@@ -1,6 +1,0 @@
--- `round` meets its contract, by its steps' contracts. Assumes nothing.
-use Rattle.prelude.proofs.{rules}
-use Rattle.table.proofs.round.Goals as goal
-
-pub returns : goal.returns
-returns c = cc
