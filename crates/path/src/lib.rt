@@ -1,5 +1,6 @@
 // The path of a job through its shared calls: the masks of its keys, CTR's calls, CMAC's. Sealing and its report take one path.
 #![tactic(auto)]
+
 ghost use Rattle.std.specs.Prelude.{◌≡◌, ◌+◌, ◌*◌, ◌≤◌, length};
 ghost use Rattle.blocks.specs.Bytes.{block_count};
 ghost use Rattle.links.specs.Record.{longest};

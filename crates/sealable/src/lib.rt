@@ -1,5 +1,6 @@
 // What sealing and its report test alike: the link, the message and the tape.
 #![tactic(auto)]
+
 ghost use Rattle.std.specs.Prelude.{◌≡◌, []};
 ghost use Rattle.answers.specs.Answer.{done, first};
 ghost use Rattle.calls.specs.Entry.{input_causes};

@@ -13,7 +13,7 @@ ghost use Rattle.walks.specs.Tested.{lane_number, lane_says};
 use shares::{Triple, pack_shares};
 
 // The call and its pair of masks to be shown, numbered from 1.
-#[derive(Drop)]
+#[derive(Clone, Copy)]
 pub struct Watch {
     pub call: usize,
     pub pair: usize,
