@@ -3,14 +3,14 @@
 #
 #     tests/block_program.sh [BLOCK [TESTS]]
 #
-# BLOCK is the program (default target/bin/block). TESTS is the program of this folder, whose own
+# BLOCK is the program (default crates/block/out/block). TESTS is the program of this folder, whose own
 # cipher gives the expected ciphertexts (default target/tests/release/tests).
 # For 32 bytes on standard input, key then block, it has to print 32 lower-case hexadecimal digits
 # and a line feed; for any other length `length` and a line feed. It has to do so however the bytes
 # arrive: at once, from a file, or in small pieces with pauses.
 set -u
 
-block=$(realpath "${1:-$(dirname "$0")/../target/bin/block}")
+block=$(realpath "${1:-$(dirname "$0")/../crates/block/out/block}")
 tests=$(realpath "${2:-$(dirname "$0")/../target/tests/release/tests}")
 for program in "$block" "$tests"; do
     if [ ! -x "$program" ]; then

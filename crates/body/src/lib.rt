@@ -10,14 +10,14 @@ ghost use Rattle.body.specs.Words.{fields, minutes, offset_in_range};
 ghost use Rattle.body.specs.Entry.{read_says, write_says};
 
 // The local offset.
-#[derive(Drop)]
+#[derive(Clone, Copy)]
 pub enum Offset {
     Missing,
     // In minutes.
     Minutes(i32),
 }
 
-#[derive(Drop)]
+#[derive(Clone, Copy)]
 pub struct Mark {
     pub seconds: u64,
     // In 2^-28 seconds.

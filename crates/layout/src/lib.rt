@@ -1,5 +1,6 @@
 // Links as bytes: a flag, link number, last number, keys, and a tail.
 #![tactic(auto)]
+
 ghost use Rattle.std.specs.Prelude.{◌≡◌, ◌+◌, ◌≤◌, ◌<◌, length};
 ghost use Rattle.layout.specs.Layout.{keys_at, link_size, flag, link_bytes, keyed_in, number_in, last_in, keys_in};
 ghost use Rattle.layout.specs.Layout.{width_byte, width_in, sound};

@@ -1,6 +1,7 @@
 // The width of a link, the form of its records; the sending link: what a sender holds between two calls, and its keying; counter
 // blocks, heads.
 #![tactic(auto)]
+
 ghost use Rattle.std.specs.Prelude.{◌≡◌, ◌≤◌, length};
 ghost use Rattle.blocks.specs.Bytes.{put};
 ghost use Rattle.answers.specs.Answer.{number_of, if_done};

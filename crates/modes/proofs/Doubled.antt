@@ -81,12 +81,12 @@ shift_in x y h l =
 -- the highest bit times 135, in the last byte: R where the bit is set, and else zeros
 pub product-added : (b : List ℕ) → get_or b 0 0 < 256 → shifted b ⊕ product b ≡ doubled b
 unfolding doubled bit_at bit zeros
-product-added b h = go (get_or b 0 0 / 128) (omega arith)
+product-added b h = go (get_or b 0 0 / 128) refl (omega arith)
   where
-    go : (t : ℕ) → t < 2 → shifted b ⊕ (replicate 15 0 ++ (t * 135 ∷ [])) ≡ cond (odd t) (shifted b ⊕ R) (shifted b)
-    go zero l = ⊕-zero (is_block _)
-    go (suc zero) l = refl
-    go (suc (suc t)) l = absurd (omega arith)
+    go : (t : ℕ) → get_or b 0 0 / 128 ≡ t → t < 2 → shifted b ⊕ product b ≡ cond (odd t) (shifted b ⊕ R) (shifted b)
+    go zero e l = rw e (⊕-zero (is_block _))
+    go (suc zero) e l = rw e
+    go (suc (suc t)) e l = absurd (omega arith)
 
 module _ {b : List ℕ} (w : Block b) where
   pub arithmetic-shifts : tab 16 (shifted_byte b) ≡ shifted b

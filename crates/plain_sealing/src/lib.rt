@@ -1,5 +1,6 @@
 // Plain sealing: the record of a message, CTR under KE and CMAC under KM.
 #![tactic(auto)]
+
 ghost use Rattle.std.specs.Prelude.{◌≡◌, ◌≤◌, length};
 ghost use Rattle.blocks.specs.Bytes.{put};
 ghost use Rattle.answers.specs.Answer.{number_of};

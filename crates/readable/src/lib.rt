@@ -1,5 +1,6 @@
 // What is tested of a record before its number: it needs no key.
 #![tactic(auto)]
+
 ghost use Rattle.std.specs.Prelude.{◌≡◌};
 ghost use Rattle.links.specs.Record.{form_of};
 ghost use Rattle.readable.specs.Readable.{record_answer};

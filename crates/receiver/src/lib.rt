@@ -1,5 +1,6 @@
 // The receiving link: what a receiver holds between two calls, its keying, and opening.
 #![tactic(auto)]
+
 ghost use Rattle.std.specs.Prelude.{◌≡◌, ◌≤◌, length};
 ghost use Rattle.blocks.specs.Bytes.{same_bytes, put};
 ghost use Rattle.answers.specs.Answer.{number_of, if_done, output};
@@ -17,7 +18,7 @@ use readable::{RecordRefusal, RecordTest};
 use window::Window;
 
 // The link's number, the window of the sequence numbers accepted, its width, and the keys KE and KM.
-#[derive(Drop)]
+#[derive(Clone, Copy)]
 pub struct Receiver {
     pub keyed: bool,
     pub number: u32,

@@ -1,5 +1,6 @@
 // The anti-replay window of a receiving link: which numbers were accepted, of the highest one and those right below it.
 #![tactic(auto)]
+
 ghost use Rattle.std.specs.Prelude.{◌≡◌};
 ghost use Rattle.window.specs.Window.{empty, below, repeated, shifted, after};
 

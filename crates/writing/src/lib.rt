@@ -1,5 +1,6 @@
 // Writing the body of a mark.
 #![tactic(auto)]
+
 ghost use Rattle.std.specs.Prelude.{◌≡◌, true, ◌+◌, ◌≤◌, length};
 ghost use Rattle.blocks.specs.Bytes.{put};
 ghost use Rattle.answers.specs.Answer.{number_of};

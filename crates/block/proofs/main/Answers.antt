@@ -3,7 +3,9 @@ use Rattle.prelude.proofs.{sym, length-take-le, rules}
 use Rattle.block.proofs.Printed.{inside}
 use Rattle.block.proofs.main.Goals as goal
 
-pub array-share-prefix-out : goal.array-share-prefix-out
-array-share-prefix-out c = inside _ _ _ _ c.answer.ensures (search rules)
+pub slice_bounds-out-end : goal.slice_bounds-out-end
+slice_bounds-out-end c = inside _ _ _ _ (c.answer-m.ensures.value, c.answer-m.ensures.out_after) (search rules)
 
--- LEFT 5 of 8: (λ c. sym (length-take-le _ _ (array-share-prefix-out c)))
+pub slice_bounds-write_all-end : goal.slice_bounds-write_all-end
+slice_bounds-write_all-end c =
+    sym (length-take-le _ _ (inside _ _ _ _ (c.answer-m.ensures.value, c.answer-m.ensures.out_after) (search rules)))

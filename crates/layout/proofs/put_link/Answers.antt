@@ -1,5 +1,5 @@
 -- `put_link` meets its contract: six parts, one behind the other. Assumes nothing.
-use Rattle.prelude.proofs.{ap, ◌∙◌, rules}
+use Rattle.prelude.proofs.{ap, ◌∙◌}
 use Rattle.blocks.specs.Bytes.{put}
 use Rattle.layout.proofs.LinkBytes.{written}
 use Rattle.layout.proofs.put_link.Goals as goal

@@ -1,5 +1,5 @@
 -- `counter_block` meets its contract: three numbers written one behind the other over a whole block. Assumes nothing.
-use Rattle.prelude.proofs.{ap, ◌∙◌, arith, rules}
+use Rattle.prelude.proofs.{ap, ◌∙◌, arith}
 use Rattle.blocks.specs.Bytes.{big_endian, put}
 use Rattle.blocks.proofs.{Numbers.big_endian-length, Parts.put_three}
 use Rattle.links.specs.Record.{number_size, index_size, sequence_most, counter_block}

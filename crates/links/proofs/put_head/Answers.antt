@@ -1,5 +1,5 @@
 -- `put_head` meets its contract: two numbers, one behind the other. Assumes nothing.
-use Rattle.prelude.proofs.{ap, ◌∙◌, arith, rules}
+use Rattle.prelude.proofs.{ap, ◌∙◌, arith}
 use Rattle.blocks.specs.Bytes.{big_endian, put}
 use Rattle.blocks.proofs.{Numbers.big_endian-length, Parts.put-put}
 use Rattle.links.specs.Record.{number_size}

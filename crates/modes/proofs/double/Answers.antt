@@ -1,5 +1,5 @@
 -- `double` meets its contract. Assumes nothing.
-use Rattle.prelude.proofs.{ap, ◌∙◌, List, ℕ, ◌<◌, arith, get_or, w8, Fits, rules}
+use Rattle.prelude.proofs.{ap, ◌∙◌, List, ℕ, get_or, w8, Fits, rules}
 use Rattle.blocks.specs.Bytes.{◌⊕◌}
 use Rattle.blocks.proofs.Xor.{set-last-⊕}
 use Rattle.modes.specs.Doubling.{product}

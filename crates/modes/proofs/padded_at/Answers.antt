@@ -1,5 +1,5 @@
 -- `padded_at` meets its contract: the last bytes written over zeros, and the bit 1 behind them. Assumes nothing.
-use Rattle.prelude.proofs.{arith, rules}
+use Rattle.prelude.proofs.{arith}
 use Rattle.modes.proofs.Written.{padded-last}
 use Rattle.modes.proofs.padded_at.Goals as goal
 

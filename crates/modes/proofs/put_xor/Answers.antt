@@ -1,8 +1,8 @@
 -- `put_xor` meets its contract. The loop has written the first i bytes. Assumes nothing.
-use Rattle.prelude.proofs.{◌≡◌, sym, ap, ◌∙◌, List, ℕ, ◌-◌, ◌≤◌, arith, length, get_or, rules}
-use Rattle.blocks.specs.Bytes.{◌⊕◌, put, tab, piece}
+use Rattle.prelude.proofs.{◌≡◌, sym, ap, ◌∙◌, List, ℕ, arith, length, rules}
+use Rattle.blocks.specs.Bytes.{◌⊕◌, put, piece}
 use Rattle.blocks.proofs.Xor.{⊕-length}
-use Rattle.blocks.proofs.Parts.{tab-list, fill_none, fill-length, fill_more, fill_done}
+use Rattle.blocks.proofs.Parts.{tab-list, fill_none, fill_more, fill_done}
 use Rattle.modes.proofs.{Pieces.piece-length, Written.part-⊕}
 use Rattle.modes.proofs.put_xor.Goals as goal
 

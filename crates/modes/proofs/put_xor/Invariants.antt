@@ -1,9 +1,6 @@
 -- `put_xor` meets its contract. The loop has written the first i bytes. Assumes nothing.
-use Rattle.prelude.proofs.{◌≡◌, sym, ap, ◌∙◌, List, ℕ, ◌-◌, ◌≤◌, arith, length, get_or, rules}
+use Rattle.prelude.proofs.{◌≡◌, ◌-◌, ◌≤◌, get_or}
 use Rattle.blocks.specs.Bytes.{◌⊕◌, put, tab, piece}
-use Rattle.blocks.proofs.Xor.{⊕-length}
-use Rattle.blocks.proofs.Parts.{tab-list, fill_none, fill-length, fill_more, fill_done}
-use Rattle.modes.proofs.{Pieces.piece-length, Written.part-⊕}
 use Rattle.modes.proofs.put_xor.Given as goal
 
 abbrev pub invariant-loop-i : goal.invariant-loop-i

@@ -1,9 +1,7 @@
 -- `shift` meets its contract. The loop has written the first i bytes. Assumes nothing.
-use Rattle.prelude.proofs.{◌≡◌, refl, ◌∙◌, ◌-◌, ◌≤◌, arith, replicate, get_or, w8, Fits, rules}
-use Rattle.blocks.specs.Bytes.{Block, put, tab}
-use Rattle.blocks.proofs.Parts.{fill_done, all_none, all_more, all_done}
+use Rattle.prelude.proofs.{◌≡◌, ◌-◌, ◌≤◌, replicate}
+use Rattle.blocks.specs.Bytes.{put, tab}
 use Rattle.modes.specs.Doubling.{shifted_byte}
-use Rattle.modes.proofs.Doubled.{arithmetic-shifts, last-shifted}
 use Rattle.modes.proofs.shift.Given as goal
 
 abbrev pub invariant-loop-i : goal.invariant-loop-i

@@ -1,7 +1,7 @@
 -- `test_record` meets its contract: each refusal in its place. Assumes nothing.
-use Rattle.prelude.proofs.{◌≡◌, sym, ap, ◌∙◌, false, not, arith, rules}
+use Rattle.prelude.proofs.{sym, ap, ◌∙◌, not, arith}
 use Rattle.answers.proofs.First.{tests}
-use Rattle.links.specs.Record.{added, form_of, usable}
+use Rattle.links.specs.Record.{added}
 use Rattle.links.specs.declared.Form.{Form}
 use Rattle.readable.proofs.Readable.{record-refused, record-passed}
 use Rattle.readable.proofs.test_record.Goals as goal

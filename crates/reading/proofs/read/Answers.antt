@@ -1,26 +1,20 @@
 -- `read` meets its contract: each refusal in its place, and the mark. Assumes nothing.
-use Rattle.prelude.proofs.{rules}
+use Rattle.prelude.proofs.{ap, not}
 use Rattle.reading.proofs.Answers.{bad-length, bad-word, incomplete, is_read}
 use Rattle.reading.proofs.read.Goals as goal
 
-pub returns-2 : goal.returns-2
-returns-2 c =
-    let found = c in
-    bad-word _ found.right_length.ensures found.if1.left found.found_in.ensures c.if2.taken
+pub returns-then-not-right_length : goal.returns-then-not-right_length
+returns-then-not-right_length c = bad-length _ c.right_length.ensures (ap not c.if-not-right_length.true)
 
-pub returns-3 : goal.returns-3
-returns-3 c =
-    let good = c in
-    let found = good in
-    incomplete _ found.right_length.ensures found.if1.left found.found_in.ensures good.if2.left
-    good.complete.ensures c.if3.taken
+pub returns-then-found : goal.returns-then-found
+returns-then-found c = bad-word _ c.right_length.ensures (ap not c.if-not-right_length.false) c.found_in-found.ensures c.if-found.true
 
-pub returns-4 : goal.returns-4
-returns-4 c =
-    let whole = c in
-    let good = whole in
-    let found = good in
-    is_read _ found.right_length.ensures found.if1.left found.found_in.ensures good.if2.left
-    good.complete.ensures whole.if3.left c.mark_of.ensures
+pub returns-then-not-whole : goal.returns-then-not-whole
+returns-then-not-whole c =
+    incomplete _ c.right_length.ensures (ap not c.if-not-right_length.false) c.found_in-found.ensures c.if-found.false
+    c.complete-whole.ensures (ap not c.if-not-whole.true)
 
--- LEFT 1 of 15: (λ c. bad-length _ c.right_length.ensures c.if1.taken)
+pub returns : goal.returns
+returns c =
+    is_read _ c.right_length.ensures (ap not c.if-not-right_length.false) c.found_in-found.ensures c.if-found.false
+    c.complete-whole.ensures (ap not c.if-not-whole.false) c.mark_of.ensures

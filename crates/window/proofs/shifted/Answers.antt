@@ -1,5 +1,5 @@
 -- `shifted` meets its contract. Assumes nothing.
-use Rattle.prelude.proofs.{refl, arith, rules}
+use Rattle.prelude.proofs.{refl, rules}
 use Rattle.window.specs.Window.{shifted}
 use Rattle.window.proofs.Word.{shifted-out}
 use Rattle.window.proofs.shifted.Goals as goal

@@ -1,5 +1,5 @@
 -- Keying a sender meets its contract. Assumes nothing.
-use Rattle.prelude.proofs.{refl, true, arith, rules}
+use Rattle.prelude.proofs.{refl, true, arith}
 use Rattle.answers.proofs.First.{leaves-one, tests}
 use Rattle.links.proofs.Keying.{key-refused, key-done}
 use Rattle.links.proofs.Sender.key.Goals as goal
