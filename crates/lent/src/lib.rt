@@ -1,5 +1,6 @@
 // The sending link lent by `&mut`: every sealing advances it.
 #![tactic(auto)]
+
 ghost use Rattle.std.specs.Prelude.{◌≡◌, length};
 ghost use Rattle.calls.specs.Entry.{seal_answer, seal_link, seal_shares, seal_output};
 ghost use Rattle.sealing.specs.Says.{seal_says};
@@ -24,9 +25,10 @@ pub fn seal_next(link: &mut Sender, message: &[u8], tape: &[u8], out: &mut [u8])
 {
     let done = sealing::seal(*link, message, tape, out);
     *link = done.link;
+    let shares = done.shares;
     Outcome {
         answer: done.answer,
-        shares: done.shares,
+        shares,
     }
 }
 
@@ -40,9 +42,10 @@ pub fn seal_through(link: Sender, message: &[u8], tape: &[u8], out: &mut [u8]) -
 {
     let mut kept = link;
     let done = seal_next(&mut kept, message, tape, out);
+    let shares = done.shares;
     Sealing {
         answer: done.answer,
         link: kept,
-        shares: done.shares,
+        shares,
     }
 }
