@@ -1,5 +1,6 @@
 // The block call: a cipher by an engine, on slices.
 #![tactic(auto)]
+
 ghost use Rattle.std.specs.Prelude.{◌≡◌, ◌&&◌, eqb};
 ghost use Rattle.answers.specs.Answer.{number_of};
 ghost use Rattle.engines.specs.Block.{block_says, block_answer, block_output};

@@ -1,5 +1,6 @@
 // The calls on a receiving link in its bytes: each returns 0 or the refusal's number.
 #![tactic(auto)]
+
 ghost use Rattle.std.specs.Prelude.{◌≡◌, length};
 ghost use Rattle.answers.specs.Answer.{number_of};
 ghost use Rattle.receiving.specs.Stored.{receiver_size, receiver_in, tail_of, receiver_bytes};
