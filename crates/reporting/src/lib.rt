@@ -1,5 +1,6 @@
 // The lane report: a lane of the sealing that a link would do next.
 #![tactic(auto)]
+
 ghost use Rattle.std.specs.Prelude.{◌≡◌, length};
 ghost use Rattle.answers.specs.Answer.{number_of};
 ghost use Rattle.calls.specs.Entry.{report_answer, report_output};

@@ -1,5 +1,6 @@
 // Shared sealing.
 #![tactic(auto)]
+
 ghost use Rattle.std.specs.Prelude.{◌≡◌, length, replicate};
 ghost use Rattle.answers.specs.Answer.{number_of};
 ghost use Rattle.calls.specs.Entry.{seal_answer, seal_link, seal_shares, seal_output};
