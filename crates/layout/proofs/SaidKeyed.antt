@@ -28,26 +28,26 @@ module _ (size p : ℕ) (b : List ℕ) (h : Bytes b) (fits : keys_at ≤ size) w
   last-lt : length b ≡ size → last_in b < 256 ^ last_size
   last-lt e = part-lt last_at last_size b h (omega arith)
 
-  tests-say : (sound size p b && counts) ≡ true → SaysKeyed size p b
-  tests-say e =
-      let t = both_true (sound size p b) counts e in
-      let s = both_true (eqb (length b) size) (leb (get_or b p 0) 1) t.0 in
-      let long = eqb-true (length b) size s.0 in
-      let u = (usable-exactly (form_of (width_in p b)) (keyed_in b) (last_in b)).0 t.1 in
-      record {
-        long = long;
-        keyed = eqb-true (get_or b 0 0) 1 u.0;
-        width = leb-true (get_or b p 0) 1 s.1;
-        number = (numbers-told (get_or b p 0) (last_in b) (last-lt long)).0 u.1;
-      }
-
-  say-tests : SaysKeyed size p b → (sound size p b && counts) ≡ true
-  say-tests K =
-      ap₂ ◌&&◌ (is-sound size p b K.long K.width)
-      ((usable-exactly (form_of (width_in p b)) (keyed_in b) (last_in b)).1
-      (eq-eqb (get_or b 0 0) 1 K.keyed, (numbers-told (get_or b p 0) (last_in b) (last-lt K.long)).1 K.number))
-
   -- of the link that the bytes say where they can say one, and of a fresh one, which never counts as keyed
   pub said-keyed : {A : Type 0} (U : A → Bool) {there fresh : A} → U there ≡ counts → U fresh ≡ false
       → U (cond (sound size p b) there fresh) ≡ true ↔ SaysKeyed size p b
   said-keyed U e f = let c = chosen U e f (sound size p b) in (λ k. tests-say (sym c ∙ k), λ K. c ∙ say-tests K)
+    where
+      tests-say : (sound size p b && counts) ≡ true → SaysKeyed size p b
+      tests-say e =
+          let t = both_true (sound size p b) counts e in
+          let s = both_true (eqb (length b) size) (leb (get_or b p 0) 1) t.0 in
+          let long = eqb-true (length b) size s.0 in
+          let u = (usable-exactly (form_of (width_in p b)) (keyed_in b) (last_in b)).0 t.1 in
+          record {
+            long = long;
+            keyed = eqb-true (get_or b 0 0) 1 u.0;
+            width = leb-true (get_or b p 0) 1 s.1;
+            number = (numbers-told (get_or b p 0) (last_in b) (last-lt long)).0 u.1;
+          }
+
+      say-tests : SaysKeyed size p b → (sound size p b && counts) ≡ true
+      say-tests K =
+          ap₂ ◌&&◌ (is-sound size p b K.long K.width)
+          ((usable-exactly (form_of (width_in p b)) (keyed_in b) (last_in b)).1
+          (eq-eqb (get_or b 0 0) 1 K.keyed, (numbers-told (get_or b p 0) (last_in b) (last-lt K.long)).1 K.number))

@@ -24,7 +24,7 @@ module _ (f : Form) (C : List ℕ → List ℕ → List ℕ) (x : Opener) (r : L
       let room = le-ltb o (message_size f r) O.room in
       let new = admitted-passes x.window (sequence_in f r) O.admitted in
       let same = ap (λ (t : List ℕ). not (same_bytes t (tag_in f r))) O.tagged ∙ ap not (same_refl (tag_in f r)) in
-      readable-none f _ _ _ r O.readable (read_causes f C x r o) (room, (new.0, (new.1, (same, tt))))
+      readable-none f _ _ _ r O.readable (read_causes f C x r o) (room, (new.0, (new.1, (cc, tt))))
 
   pub none-openable : NoneOf (open_causes f C x r o) → Openable f C x r o
   none-openable h = openable (none-readable f _ _ _ r (read_causes f C x r o) h)

@@ -8,7 +8,7 @@ use Rattle.bits.proofs.{Laws.bit_high, Test.neither}
 use Rattle.answers.proofs.First.{either}
 use Rattle.window.specs.Window.{span, known, New, Admitted, below, repeated, shifted, moved_up, marked, after}
 use Rattle.window.specs.declared.Window.{Window}
-use Rattle.window.proofs.Word.{shifted-lt, bit_shifted, clear-set, clear-first-set}
+use Rattle.window.proofs.Word.{shifted-lt, clear-set, clear-first-set, clear-shifted}
 
 -- ---- admitted exactly where no cause refuses
 
@@ -79,46 +79,42 @@ module _ (w : Window) (t : ℕ) where
 
   -- what it admits then, it admitted before
   module _ (s : ℕ) where
-    right-less : w.highest < t → New (moved_up w t) s → New w s
-    right-less l (inl r) = inl (omega arith)
-    right-less l (inr r) = elim (dec_lt w.highest s) [
-      | yes h ↦ inl h
-      | no h ↦
-          let i = r.0 in
-          let d : ℕ = t - w.highest in
-          let e : t - s ≡ d + (w.highest - s) = omega arith in
-          let clear = (clear-first-set (shifted w.accepted d) (t - s) (omega arith) r.1).0 in
-          inr (
-            (omega arith, omega arith),
-            sym (bit_shifted w.accepted d (w.highest - s) (omega arith)) ∙ ap (bit (shifted w.accepted d)) (sym e) ∙ clear,
-          )
-    ]
-
-    inside-less : New (marked w t) s → New w s
-    inside-less (inl r) = inl r
-    inside-less (inr r) =
-        let i = r.0 in
-        inr (r.0, (clear-set w.accepted (w.highest - t) (w.highest - s) (omega arith) r.1).0)
-
     pub admits-less : Admitted (after w t) s → Admitted w s
-    admits-less =
-        either_way (λ (v : Window). Admitted v s → Admitted w s) (λ l a. (a.0, right-less l a.1)) (λ l a. (a.0, inside-less a.1))
+    admits-less = either_way (λ (v : Window). Admitted v s → Admitted w s) (λ l a. (a.0, right l a.1)) (λ l a. (a.0, inside a.1))
+      where
+        right : w.highest < t → New (moved_up w t) s → New w s
+        right l (inl r) = inl (omega arith)
+        right l (inr r) = elim (dec_lt w.highest s) [
+          | yes h ↦ inl h
+          | no h ↦
+              let i = r.0 in
+              inr (
+                (omega arith, omega arith),
+                clear-shifted w.accepted _ (t - s) (w.highest - s) r.1 (omega arith) (omega arith),
+              )
+        ]
+
+        inside : New (marked w t) s → New w s
+        inside (inl r) = inl r
+        inside (inr r) =
+            let i = r.0 in
+            inr (r.0, (clear-set w.accepted (w.highest - t) (w.highest - s) (omega arith) r.1).0)
 
   -- the accepted number itself is not admitted
-  right-again : New (moved_up w t) t → ⊥
-  right-again (inl r) = omega arith
-  right-again (inr r) =
-      eqb-false (t - t) 0 (clear-first-set (shifted w.accepted (t - w.highest)) (t - t) (omega arith) r.1).1 (omega arith)
-
-  inside-again : t ≤ w.highest → New (marked w t) t → ⊥
-  inside-again l (inl r) = omega arith
-  inside-again l (inr r) =
-      let i = r.0 in
-      let k : ℕ = w.highest - t in
-      eqb-false k k (clear-set w.accepted k k (omega arith) r.1).1 refl
-
   pub not-again : Admitted (after w t) t → ⊥
-  not-again = either_way (λ (v : Window). Admitted v t → ⊥) (λ l a. right-again a.1) (λ l a. inside-again l a.1)
+  not-again = either_way (λ (v : Window). Admitted v t → ⊥) (λ l a. right a.1) (λ l a. inside l a.1)
+    where
+      right : New (moved_up w t) t → ⊥
+      right (inl r) = omega arith
+      right (inr r) =
+          eqb-false (t - t) 0 (clear-first-set (shifted w.accepted (t - w.highest)) (t - t) (omega arith) r.1).1 (omega arith)
+
+      inside : t ≤ w.highest → New (marked w t) t → ⊥
+      inside l (inl r) = omega arith
+      inside l (inr r) =
+          let i = r.0 in
+          let k : ℕ = w.highest - t in
+          eqb-false k k (clear-set w.accepted k k (omega arith) r.1).1 refl
 
   -- ---- what its fields can hold
 

@@ -59,3 +59,8 @@ clear-set x j k h e = neither (bit x k) (eqb k j) (sym (bit-set x j k h) ∙ e)
 pub clear-first-set : (x k : ℕ) → k < span → bit (bit_or x 1) k ≡ false → (bit x k ≡ false) × (eqb k 0 ≡ false)
 unfolding shifted
 clear-first-set x = clear-set x 0
+
+-- of a shifted word with its first bit set
+pub clear-shifted : (x d n k : ℕ) → bit (bit_or (shifted x d) 1) n ≡ false → n ≡ d + k → n < span → bit x k ≡ false
+clear-shifted x d n k r e h =
+    sym (bit_shifted x d k (omega arith)) ∙ ap (bit (shifted x d)) (sym e) ∙ (clear-first-set (shifted x d) n h r).0

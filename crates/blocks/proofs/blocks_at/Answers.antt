@@ -1,5 +1,5 @@
 -- `blocks_at` meets its contract: a part written over zeros. Assumes nothing.
-use Rattle.prelude.proofs.{refl, ◌∙◌, arith, rules}
+use Rattle.prelude.proofs.{refl, ◌∙◌, arith}
 use Rattle.blocks.proofs.Parts.{put-part}
 use Rattle.blocks.proofs.blocks_at.Goals as goal
 

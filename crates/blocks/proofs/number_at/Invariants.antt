@@ -1,7 +1,6 @@
 -- `number_at` meets its contract. The loop has read the first i bytes. Assumes nothing.
-use Rattle.prelude.proofs.{◌≡◌, ap, ◌∙◌, ℕ, ◌+◌, ◌-◌, ◌*◌, ◌^◌, ◌≤◌, ◌<◌, arith, get_or, rules}
+use Rattle.prelude.proofs.{◌≡◌, ◌-◌, ◌≤◌}
 use Rattle.blocks.specs.Bytes.{value, part}
-use Rattle.blocks.proofs.Numbers.{value_none, value-more, more-fits}
 use Rattle.blocks.proofs.number_at.Given as goal
 
 abbrev pub invariant-loop-i : goal.invariant-loop-i

@@ -1,7 +1,6 @@
 -- `put_bytes` meets its contract. The loop has written the first i bytes. Assumes nothing.
-use Rattle.prelude.proofs.{◌≡◌, refl, ap, ◌∙◌, List, ℕ, ◌-◌, ◌≤◌, arith, length, get_or, rules}
+use Rattle.prelude.proofs.{◌≡◌, ◌-◌, ◌≤◌, length, get_or}
 use Rattle.blocks.specs.Bytes.{put, tab}
-use Rattle.blocks.proofs.Parts.{tab-list, fill_none, fill-length, fill_more, fill_done}
 use Rattle.blocks.proofs.put_bytes.Given as goal
 
 abbrev pub invariant-loop-i : goal.invariant-loop-i

@@ -1,6 +1,5 @@
 -- `put_number` meets its contract. The bytes from i on have been written. Assumes nothing.
-use Rattle.prelude.proofs.{◌≡◌, ◌∙◌, ◌+◌, ◌-◌, ◌/◌, ◌^◌, ◌≤◌, arith, length, rules}
-use Rattle.blocks.specs.Bytes.{big_endian, put}
+use Rattle.prelude.proofs.{◌≡◌, ◌∙◌, arith, length, rules}
 use Rattle.blocks.proofs.Numbers.{rest-none, rest_more, digits-none, digits-length, digits_more, digits-done}
 use Rattle.blocks.proofs.put_number.Goals as goal
 use Rattle.blocks.proofs.put_number.Goals.{In-loop-i}

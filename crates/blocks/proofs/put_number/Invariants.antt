@@ -1,7 +1,6 @@
 -- `put_number` meets its contract. The bytes from i on have been written. Assumes nothing.
-use Rattle.prelude.proofs.{◌≡◌, ◌∙◌, ◌+◌, ◌-◌, ◌/◌, ◌^◌, ◌≤◌, arith, length, rules}
+use Rattle.prelude.proofs.{◌≡◌, ◌+◌, ◌-◌, ◌/◌, ◌^◌, ◌≤◌}
 use Rattle.blocks.specs.Bytes.{big_endian, put}
-use Rattle.blocks.proofs.Numbers.{rest-none, rest_more, digits-none, digits-length, digits_more, digits-done}
 use Rattle.blocks.proofs.put_number.Given as goal
 
 abbrev pub invariant-loop-i : goal.invariant-loop-i

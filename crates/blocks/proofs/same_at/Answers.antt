@@ -1,6 +1,5 @@
 -- `same_at` meets its contract. The loop has compared the first i bytes. Assumes nothing.
-use Rattle.prelude.proofs.{◌≡◌, refl, ap, ◌∙◌, ⊎_elim, ℕ, ◌-◌, ◌≤◌, arith, length, take, rules}
-use Rattle.blocks.specs.Bytes.{same_bytes, part}
+use Rattle.prelude.proofs.{◌≡◌, refl, ap, ◌∙◌, ℕ, arith, length, rules}
 use Rattle.blocks.proofs.Same.{compared, compare_same, compare-other}
 use Rattle.blocks.proofs.same_at.Goals as goal
 use Rattle.blocks.proofs.same_at.Goals.{then-block-i, else-block-i}
@@ -12,8 +11,8 @@ loop-i-preserved c =
     let z : length a.block ≡ 16 = search rules in (
       search rules,
       elim c.if-block-i.branch [
-        then-block-i w ↦ w.same-is ∙ compare-other a.block a.s.now a.at l.i (omega arith) (omega arith) w.if-block-i.true refl
-      | else-block-i w ↦ w.same-is ∙ compare_same a.block a.s.now a.at l.i (omega arith) (omega arith) l.invariant.1 w.if-block-i.false refl
+        | then-block-i w ↦ w.same-is ∙ compare-other a.block a.s.now a.at l.i (omega arith) (omega arith) w.if-block-i.true refl
+        | else-block-i w ↦ w.same-is ∙ compare_same a.block a.s.now a.at l.i (omega arith) (omega arith) l.invariant.1 w.if-block-i.false refl
       ],
     )
 

@@ -1,7 +1,6 @@
 -- `same_at` meets its contract. The loop has compared the first i bytes. Assumes nothing.
-use Rattle.prelude.proofs.{◌≡◌, refl, ap, ◌∙◌, ⊎_elim, ℕ, ◌-◌, ◌≤◌, arith, length, take, rules}
+use Rattle.prelude.proofs.{◌≡◌, ◌-◌, ◌≤◌, take}
 use Rattle.blocks.specs.Bytes.{same_bytes, part}
-use Rattle.blocks.proofs.Same.{compared, compare_same, compare-other}
 use Rattle.blocks.proofs.same_at.Given as goal
 
 abbrev pub invariant-loop-i : goal.invariant-loop-i
