@@ -10,7 +10,7 @@ use links::{LONGEST, Sender, usable};
 use path::tape_need;
 
 // Why a sealing cannot be done.
-#[derive(Drop)]
+#[derive(Clone, Copy)]
 pub enum InputRefusal {
     NotKeyed,
     NumbersUsed,

@@ -13,7 +13,7 @@ use sealable::{InputRefusal, InputTest, test_inputs};
 use shares::unpack_shares;
 use walks::Watch;
 
-#[derive(Drop)]
+#[derive(Clone, Copy)]
 pub enum SealAnswer {
     // The length written, and the tape bytes read.
     Sealed { len: usize, used: usize },
