@@ -1,5 +1,6 @@
 // The calls on a sending link in its bytes: each returns 0 or the refusal's number.
 #![tactic(auto)]
+
 ghost use Rattle.std.specs.Prelude.{◌≡◌, cond, ◌++◌, ◌≤◌, ltb, length, get_or};
 ghost use Rattle.blocks.specs.Bytes.{big_endian, put};
 ghost use Rattle.answers.specs.Answer.{number_of, values_of};

@@ -6,8 +6,5 @@ use Rattle.sending.proofs.put_shares.Goals as goal
 
 pub returns : goal.returns
 returns c =
-    let count = c in
-    let tag = count in
-    let a = tag.args in
-    count.put_number.ensures ∙ ap (put 48 _) tag.put_bytes.ensures ∙ put-put 0 a.t1 _ a.shares.now 48 (search rules)
-    (search rules)
+    let a = c.args in
+    c.put_number.ensures ∙ ap (put 48 _) c.put_bytes.ensures ∙ put-put 0 a.tag _ a.shares.now 48 (search rules) (search rules)
