@@ -16,7 +16,6 @@ static int reaches[CRATES_MOST][CRATES_MOST]; /* directly or over others */
 /* Crates that are used but not listed: they come with the toolchain. */
 static char outer[OUTER_MOST][NAME_MOST];
 static int outer_count;
-static int uses_outer[CRATES_MOST];
 
 /* Whether a crate is a program, or used by programs alone. */
 static int with_programs[CRATES_MOST];
@@ -48,7 +47,6 @@ static void note_use(int crate, const char *name)
         uses[crate][used] = 1;
         return;
     }
-    uses_outer[crate] = 1;
     for (int i = 0; i < outer_count; i++)
         if (strcmp(outer[i], name) == 0)
             return;
@@ -63,6 +61,7 @@ static void read_line(char *words)
     if (!colon)
         return;
     *colon = 0;
+    words[strcspn(words, " \t")] = 0;
     int crate = count;
     for (char *name = strtok(colon + 1, " \t"); name; name = strtok(NULL, " \t"))
         note_use(crate, name);
@@ -99,6 +98,15 @@ static void find_reach(void)
         }
 }
 
+/* Whether a crate is a program: it has a main file. */
+static int is_program(int crate)
+{
+    FILE *file = fopen(say("crates/%s/src/main.rt", names[crate]), "r");
+    if (file)
+        fclose(file);
+    return file != NULL;
+}
+
 /* Whether a use is drawn: none of the others leads to it. */
 static int is_drawn(int crate, int used)
 {
@@ -108,14 +116,11 @@ static int is_drawn(int crate, int used)
     return uses[crate][used];
 }
 
-/* What reads or prints, over the toolchain's crates, is a program's; and what only such crates use. */
+/* The programs, and what only they use. */
 static void find_programs(void)
 {
-    for (int i = 0; i < count; i++) {
-        with_programs[i] = uses_outer[i];
-        for (int j = 0; j < i; j++)
-            with_programs[i] |= reaches[i][j] && uses_outer[j];
-    }
+    for (int i = 0; i < count; i++)
+        with_programs[i] = is_program(i);
     for (int i = count - 1; i >= 0; i--) {
         int users = 0, others = 0;
         for (int j = i + 1; j < count; j++) {
@@ -146,7 +151,7 @@ static struct graph *library_graph(void)
     for (int i = 0; i < count; i++) {
         if (with_programs[i])
             continue;
-        nodes[i] = add_node(&graph, names[i], level_of(i), strcmp(names[i], "rasppuce") ? PLAIN : MARKED);
+        nodes[i] = add_node(&graph, names[i], level_of(i), strcmp(names[i], "rasppuce_c") ? PLAIN : MARKED);
         for (int j = 0; j < i; j++)
             if (is_drawn(i, j))
                 add_edge(&graph, nodes[i], nodes[j], 0);

@@ -1,9 +1,7 @@
 -- `joined` meets its contract. The loop has joined the first i bytes. Assumes nothing.
-use Rattle.prelude.proofs.{◌≡◌, refl, sym, ap, ◌∙◌, ℕ, ◌-◌, ◌≤◌, arith, length, get_or, rules}
+use Rattle.prelude.proofs.{◌≡◌, ◌-◌, ◌≤◌, get_or}
 use Rattle.blocks.specs.Bytes.{put, tab}
-use Rattle.blocks.proofs.Parts.{tab-list, all_none, all_more, all_done}
 use Rattle.masking.specs.Shares.{join, shares_in}
-use Rattle.outgoing.proofs.Stream.{join-length, join-at}
 use Rattle.outgoing.proofs.joined.Given as goal
 
 abbrev pub invariant-loop-i : goal.invariant-loop-i

@@ -1,5 +1,5 @@
 -- `put_ciphertext` meets its contract. The loop has written the first j blocks. Assumes nothing.
-use Rattle.prelude.proofs.{◌≡◌, ap, ◌∙◌, List, ℕ, ◌+◌, ◌*◌, ◌<◌, arith, length, rules}
+use Rattle.prelude.proofs.{ap, ◌∙◌, List, ℕ, ◌+◌, ◌*◌, arith, length, rules}
 use Rattle.blocks.specs.Bytes.{◌⊕◌, put, piece}
 use Rattle.modes.proofs.Pieces.{piece-length}
 use Rattle.modes.proofs.Stream.{written_none, written-length, written-more, written_all}

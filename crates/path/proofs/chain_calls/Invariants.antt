@@ -1,14 +1,11 @@
 -- `chain_calls` meets its contract. The loop stands behind the subkeys' call and CMAC's first j, its output is the chain.
 -- Assumes nothing.
-use Rattle.prelude.proofs.{◌≡◌, ap, ◌∙◌, ℕ, ◌+◌, ◌-◌, ◌≤◌, ◌<◌, arith, length, rules}
-use Rattle.blocks.specs.Bytes.{block_count}
+use Rattle.prelude.proofs.{◌≡◌, ◌+◌, ◌-◌, ◌≤◌, length}
 use Rattle.masking.specs.{Shares.add, Shares.shares_in, Shares.at, Shares.pair_size, Shares.masks_at, Call.encryption}
 use Rattle.shares.specs.Packed.{shares_of}
 use Rattle.runs.specs.Run.{output_of}
-use Rattle.walks.proofs.Walking.{walked_at}
-use Rattle.calls.specs.{Numbered.mac, Job.Job, Job.count, Job.chain, Job.job_calls}
+use Rattle.calls.specs.{Job.Job, Job.count, Job.chain, Job.job_calls}
 use Rattle.path.specs.Path.{Counted, IsJob, JobWalked, BlocksHold}
-use Rattle.path.proofs.Walking.{room-left, counted_none, counted-more, counted-at, call-more, block_held, chain-none, chain-in, chain_more}
 use Rattle.path.proofs.chain_calls.Given as goal
 
 abbrev pub invariant-loop-j : goal.invariant-loop-j

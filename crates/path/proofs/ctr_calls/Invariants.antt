@@ -1,13 +1,10 @@
 -- `ctr_calls` meets its contract. The loop stands behind CTR's first j calls, their output shares are in `outs`. Assumes nothing.
-use Rattle.prelude.proofs.{◌≡◌, sym, ap, ◌∙◌, ℕ, ◌+◌, ◌-◌, ◌≤◌, ◌<◌, arith, length, rules}
-use Rattle.blocks.specs.Bytes.{block_count}
-use Rattle.masking.specs.Shares.{add, only, shares_in, at, masks_at}
+use Rattle.prelude.proofs.{◌≡◌, ◌+◌, ◌-◌, ◌≤◌, length}
+use Rattle.masking.specs.Shares.{add, shares_in, at, masks_at}
 use Rattle.shares.specs.Packed.{shares_of}
-use Rattle.walks.proofs.Walking.{walked_at}
-use Rattle.calls.specs.{Numbered.ctr, Job.Job, Job.count}
+use Rattle.calls.specs.{Job.Job, Job.count}
 use Rattle.inputs.specs.Inputs.{outs_size}
 use Rattle.path.specs.Path.{Counted, IsJob, JobWalked, OutsHold}
-use Rattle.path.proofs.Walking.{room-left, counted_none, counted-more, counted-at, call-more, ctr-in, outs-none, outs-more, outs-at}
 use Rattle.path.proofs.ctr_calls.Given as goal
 
 abbrev pub invariant-loop-j : goal.invariant-loop-j

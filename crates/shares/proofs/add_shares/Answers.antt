@@ -1,5 +1,4 @@
 -- `add_shares` meets its contract, share by share. Assumes nothing.
-use Rattle.prelude.proofs.{rules}
 use Rattle.masking.proofs.Shape.{shares-same}
 use Rattle.shares.proofs.add_shares.Goals as goal
 

@@ -1,9 +1,8 @@
 -- `run_rounds` meets its contract. The loop has done the rounds up to the one numbered n. Assumes nothing.
-use Rattle.prelude.proofs.{◌≡◌, sym, ap, ◌∙◌, ℕ, suc, ◌+◌, ◌-◌, ◌*◌, ◌≤◌, arith, rules}
+use Rattle.prelude.proofs.{◌≡◌, ◌+◌, ◌-◌, ◌*◌, ◌≤◌}
 use Rattle.baksheesh.specs.Baksheesh.{rotated}
-use Rattle.masking.specs.Shares.{add, each, at, pair_size}
+use Rattle.masking.specs.Shares.{each, at, pair_size}
 use Rattle.shares.specs.Packed.{shares_of, onward}
-use Rattle.shares.proofs.Onward.{packed-blocks, turned_none, onward-none, onward-more}
 use Rattle.shares.proofs.run_rounds.Given as goal
 
 abbrev pub invariant-loop-n : goal.invariant-loop-n

@@ -1,5 +1,4 @@
 -- `share_round` meets its contract, lane by lane. Assumes nothing.
-use Rattle.prelude.proofs.{rules}
 use Rattle.shares.specs.Packed.{shares_of}
 use Rattle.shares.proofs.Packed.{round-lanes}
 use Rattle.shares.proofs.share_round.Goals as goal

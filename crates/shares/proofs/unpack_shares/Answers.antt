@@ -1,5 +1,4 @@
 -- `unpack_shares` meets its contract: three blocks one behind the other. Assumes nothing.
-use Rattle.prelude.proofs.{rules}
 use Rattle.shares.proofs.unpack_shares.Goals as goal
 
 pub returns : goal.returns
