@@ -1,5 +1,5 @@
 -- An accepted call of sealing is an accepted sealing on the link that its bytes say. Assumes nothing.
-use Rattle.prelude.proofs.{List, [], ℕ, ◌≤◌, length, ltb-false, le-ltb}
+use Rattle.prelude.proofs.{List, [], ℕ, ◌≤◌, arith, length, ltb-false, le-ltb}
 use Rattle.answers.specs.Answer.{Accepts}
 use Rattle.answers.proofs.First.{accepts-none, none-accepts, none-append, none-parts}
 use Rattle.links.specs.declared.Sender.{Sender}
@@ -18,7 +18,7 @@ module _ (link m t : List ℕ) (o s : ℕ) where
   unfolding sealed_answer seal_answer
   call-accepted A h =
       none-accepts (sealed_causes link m t o s) []
-      (none-append (seal_causes x m t o) (slice_causes s) (accepts-none (seal_causes x m t o) _ tt A) (le-ltb s shares_size h, tt))
+      (none-append (seal_causes x m t o) (slice_causes s) (accepts-none (seal_causes x m t o) _ tt A) (le-ltb s _ (omega (arith, h)), tt))
 
   pub accepted-call : Accepts (sealed_answer link m t o s) → Accepted x m t o × (shares_size ≤ s)
   unfolding sealed_answer seal_answer
