@@ -1,6 +1,7 @@
 // Every entry, called on any slices, numbers and links. No function here has a `requires`, so an entry with one that some
 // argument breaks is refused here.
 #![tactic(auto)]
+
 use body::{Mark, ReadAnswer, WriteAnswer};
 use engines::{BlockAnswer, Cipher};
 use links::{Sender, SenderKeying};

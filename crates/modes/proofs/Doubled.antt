@@ -1,5 +1,5 @@
 -- CMAC's doubling: by bits, of an XOR, and as arithmetic on bytes. Assumes nothing.
-use Rattle.prelude.proofs.{◌≡◌, refl, sym, ap, ap₂, ◌∙◌, Bool, true, false, ◌&&◌, cond, List, [], ◌∷◌, ◌++◌, ℕ, zero, suc, ◌+◌, ◌-◌, ◌*◌}
+use Rattle.prelude.proofs.{◌≡◌, refl, sym, ap, ap₂, ◌∙◌, Bool, true, false, ◌&&◌, cond, List, [], ◌∷◌, ℕ, zero, suc, ◌+◌, ◌-◌, ◌*◌}
 use Rattle.prelude.proofs.{◌/◌, ◌%◌, ◌<◌, dec_lt, arith, eqb, eqb-suc-zero, bit_xor, xor_zero_r, xor_lt, get_or, replicate}
 use Rattle.prelude.proofs.{get_or-eq_default}
 use Rattle.bits.specs.Bit.{bit, odd, ◌⊻◌}

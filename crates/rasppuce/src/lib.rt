@@ -1,5 +1,6 @@
 // The calls of a host in C: each slice is a pointer and a length, and each call returns 0 or the refusal's number.
 #![tactic(auto)]
+
 ghost use Rattle.std.specs.Prelude.{◌≡◌, length};
 ghost use Rattle.answers.specs.Answer.{number_of};
 ghost use Rattle.baksheesh.specs.Baksheesh.{encrypt, decrypt};
@@ -17,28 +18,28 @@ use engines::Cipher;
 
 // ---- block calls
 
-pub extern "C" fn rasppuce_encrypt_table(key: &[u8], input: &[u8], output: &mut [u8]) -> u32
+pub fn rasppuce_encrypt_table(key: &[u8], input: &[u8], output: &mut [u8]) -> u32
     ensures value { result ≡ number_of (block_answer key.now input.now output.old) }
     ensures output_after { output.new ≡ block_output encrypt key.now input.now output.old }
 {
     engines::call(Cipher::EncryptTable, key, input, output).number()
 }
 
-pub extern "C" fn rasppuce_encrypt_packed(key: &[u8], input: &[u8], output: &mut [u8]) -> u32
+pub fn rasppuce_encrypt_packed(key: &[u8], input: &[u8], output: &mut [u8]) -> u32
     ensures value { result ≡ number_of (block_answer key.now input.now output.old) }
     ensures output_after { output.new ≡ block_output encrypt key.now input.now output.old }
 {
     engines::call(Cipher::EncryptPacked, key, input, output).number()
 }
 
-pub extern "C" fn rasppuce_decrypt_table(key: &[u8], input: &[u8], output: &mut [u8]) -> u32
+pub fn rasppuce_decrypt_table(key: &[u8], input: &[u8], output: &mut [u8]) -> u32
     ensures value { result ≡ number_of (block_answer key.now input.now output.old) }
     ensures output_after { output.new ≡ block_output decrypt key.now input.now output.old }
 {
     engines::call(Cipher::DecryptTable, key, input, output).number()
 }
 
-pub extern "C" fn rasppuce_decrypt_packed(key: &[u8], input: &[u8], output: &mut [u8]) -> u32
+pub fn rasppuce_decrypt_packed(key: &[u8], input: &[u8], output: &mut [u8]) -> u32
     ensures value { result ≡ number_of (block_answer key.now input.now output.old) }
     ensures output_after { output.new ≡ block_output decrypt key.now input.now output.old }
 {
@@ -48,7 +49,7 @@ pub extern "C" fn rasppuce_decrypt_packed(key: &[u8], input: &[u8], output: &mut
 // ---- the calls on a sending link
 
 // Keys a sending link, narrow where it is told 0: three shares of KE, then three of KM.
-pub extern "C" fn rasppuce_key_sender(link: &mut [u8], number: u32, wide: u32, keys: &[u8]) -> u32
+pub fn rasppuce_key_sender(link: &mut [u8], number: u32, wide: u32, keys: &[u8]) -> u32
     ensures value { result ≡ number_of (sender_keying link.old keys.now) }
     ensures link_after { link.new ≡ keyed_sender link.old number wide keys.now }
 {
@@ -56,7 +57,7 @@ pub extern "C" fn rasppuce_key_sender(link: &mut [u8], number: u32, wide: u32, k
 }
 
 // Seals a message on shares, with the masks of the tape.
-pub extern "C" fn rasppuce_seal(
+pub fn rasppuce_seal(
     link: &mut [u8],
     message: &[u8],
     tape: &[u8],
@@ -78,7 +79,7 @@ pub extern "C" fn rasppuce_seal(
 }
 
 // Writes a lane of the sealing that the link would do next.
-pub extern "C" fn rasppuce_report(
+pub fn rasppuce_report(
     link: &[u8],
     message: &[u8],
     tape: &[u8],
@@ -97,7 +98,7 @@ pub extern "C" fn rasppuce_report(
 }
 
 // Seals a message plainly, into a narrow record where it is told 0: KE, then KM.
-pub extern "C" fn rasppuce_seal_plain(
+pub fn rasppuce_seal_plain(
     keys: &[u8],
     number: u32,
     wide: u32,
@@ -116,7 +117,7 @@ pub extern "C" fn rasppuce_seal_plain(
 // ---- the calls on a receiving link
 
 // Keys a receiving link, narrow where it is told 0: KE, then KM.
-pub extern "C" fn rasppuce_key_receiver(link: &mut [u8], number: u32, wide: u32, keys: &[u8]) -> u32
+pub fn rasppuce_key_receiver(link: &mut [u8], number: u32, wide: u32, keys: &[u8]) -> u32
     ensures value { result ≡ number_of (receiver_keying link.old keys.now) }
     ensures link_after { link.new ≡ keyed_receiver link.old number wide keys.now }
 {
@@ -124,7 +125,7 @@ pub extern "C" fn rasppuce_key_receiver(link: &mut [u8], number: u32, wide: u32,
 }
 
 // Opens a record.
-pub extern "C" fn rasppuce_open(link: &mut [u8], sealed: &[u8], out: &mut [u8]) -> u32
+pub fn rasppuce_open(link: &mut [u8], sealed: &[u8], out: &mut [u8]) -> u32
     ensures value { result ≡ number_of (opened_answer link.old sealed.now (length out.old)) }
     ensures link_after { link.new ≡ opened_link link.old sealed.now (length out.old) }
     ensures out_after { out.new ≡ opened_output link.old sealed.now out.old }
@@ -135,7 +136,7 @@ pub extern "C" fn rasppuce_open(link: &mut [u8], sealed: &[u8], out: &mut [u8]) 
 // ---- the body of a mark
 
 // Reads a body: the values of its mark.
-pub extern "C" fn rasppuce_read_body(body: &[u8], values: &mut [u8]) -> u32
+pub fn rasppuce_read_body(body: &[u8], values: &mut [u8]) -> u32
     ensures value { result ≡ number_of (values_answer body.now (length values.old)) }
     ensures values_after { values.new ≡ values_output body.now values.old }
 {
@@ -143,7 +144,7 @@ pub extern "C" fn rasppuce_read_body(body: &[u8], values: &mut [u8]) -> u32
 }
 
 // Writes the body of a mark; where `given` is 0 it has no offset.
-pub extern "C" fn rasppuce_write_body(
+pub fn rasppuce_write_body(
     seconds: u64,
     fraction: u32,
     given: u32,

@@ -1,5 +1,6 @@
 // What librasppuce.a exports to a host in C: the calls of `rasppuce`, each under its own name and with its own contract.
 #![tactic(auto)]
+
 ghost use Rattle.std.specs.Prelude.{◌≡◌, length};
 ghost use Rattle.answers.specs.Answer.{number_of};
 ghost use Rattle.baksheesh.specs.Baksheesh.{encrypt, decrypt};

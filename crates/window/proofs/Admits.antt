@@ -3,7 +3,6 @@
 use Rattle.prelude.proofs.{◌≡◌, refl, sym, ap, ap₂, ◌∙◌, inl, inr, Bool, true, false, cond, ◌&&◌, ◌||◌, ℕ, ◌+◌, ◌-◌, ◌^◌, ◌≤◌, ◌<◌}
 use Rattle.prelude.proofs.{dec_le, dec_lt, lt_of_lt_of_le, pow_mono, arith, eqb, leb, ltb, or_lt, eqb-false, leb-false, eq-eqb}
 use Rattle.prelude.proofs.{ne_eqb, le-leb, lt-leb, lt-ltb, le-ltb, ltb-true, ltb-false}
-use Rattle.bits.specs.Bit.{bit}
 use Rattle.bits.proofs.{Laws.bit_high, Test.neither}
 use Rattle.answers.proofs.First.{either}
 use Rattle.window.specs.Window.{span, known, New, Admitted, below, repeated, shifted, moved_up, marked, after}
