@@ -41,9 +41,9 @@
  * - Secrets in memory. Links, keys, their shares and tapes are secret; rasppuce_wipe clears them: keys
  *   and their shares once the link is keyed, a tape and its tag shares once sealing has answered,
  *   whatever it says. Every call that uses keys also leaves bytes of keys or key shares on the stack
- *   below its caller; rasppuce_open and rasppuce_seal_plain leave bytes of the key stream too, the
- *   block calls of the plaintext, and rasppuce_read_body of the body. Where somebody could read them
- *   there, clear that too, from the function that made the call:
+ *   below its caller, and some calls leave bytes of the key stream, the message or the body
+ *   (bench/sizes shows which). Where somebody could read them there, clear that too, from the function
+ *   that made the call:
  *
  *       __attribute__((noinline, no_stack_protector)) static void wipe_stack(void)
  *       {
@@ -128,7 +128,7 @@ extern "C" {
 #define RASPPUCE_KEY_MASKS_BYTES     64u  /* of a tape: two masks for each key, at its start */
 #define RASPPUCE_ROUND_MASKS_BYTES   32u  /* of a tape: two masks, for a round of a call or its output */
 #define RASPPUCE_TAPE_MOST           39232u /* the tape for the longest message */
-#define RASPPUCE_STACK_MOST          5120u  /* the stack of any call, and a quarter more */
+#define RASPPUCE_STACK_MOST          5120u  /* the stack of any call, and nearly a quarter more */
 
 /* For a width w, as it is told: the bytes of a sequence number, behind a record's link number; what a
  * record has more than its message, 24 or 28 bytes; the last sequence number. */
