@@ -25,7 +25,7 @@ pub struct Mark {
     pub offset: Offset,
 }
 
-#[derive(Drop)]
+#[derive(Clone, Copy)]
 pub enum ReadAnswer {
     Read(Mark),
     BadLength,
@@ -47,7 +47,7 @@ impl ReadAnswer {
     }
 }
 
-#[derive(Drop)]
+#[derive(Clone, Copy)]
 pub enum WriteAnswer {
     // The length written.
     Written { len: usize },

@@ -7,7 +7,7 @@ ghost use Rattle.engines.specs.Block.{block_says, block_answer, block_output};
 ghost use Rattle.engines.specs.Cipher.{cipher_of};
 
 // Each cipher by each engine.
-#[derive(Drop)]
+#[derive(Clone, Copy)]
 pub enum Cipher {
     EncryptTable,
     EncryptPacked,
@@ -15,7 +15,7 @@ pub enum Cipher {
     DecryptPacked,
 }
 
-#[derive(Drop)]
+#[derive(Clone, Copy)]
 pub enum BlockAnswer {
     Done,
     BadLength,

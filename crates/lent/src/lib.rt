@@ -9,7 +9,7 @@ use links::Sender;
 use sealing::{SealAnswer, Sealing};
 
 // What a sealing returns besides the link. The tag's three shares stand one behind the other; zeros where it is refused.
-#[derive(Drop)]
+#[derive(Clone, Copy)]
 pub struct Outcome {
     pub answer: SealAnswer,
     pub shares: [u8; 48],

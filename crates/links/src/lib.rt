@@ -113,7 +113,7 @@ pub struct Sender {
     pub km: [u8; 48],
 }
 
-#[derive(Drop)]
+#[derive(Clone, Copy)]
 pub enum KeyAnswer {
     Keyed,
     BadKeys,
@@ -131,7 +131,7 @@ impl KeyAnswer {
     }
 }
 
-#[derive(Drop)]
+#[derive(Clone, Copy)]
 pub struct SenderKeying {
     pub answer: KeyAnswer,
     pub link: Sender,

@@ -36,7 +36,7 @@ pub fn tape_need(n: usize) -> usize
 // ---- the keys
 
 // The shares of KE and KM, masked, and a walk that begins behind their masks.
-#[derive(Drop)]
+#[derive(Clone, Copy)]
 pub struct Begun {
     pub e: Triple,
     pub m: Triple,

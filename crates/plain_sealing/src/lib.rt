@@ -12,7 +12,7 @@ ghost use Rattle.plain_sealing.specs.Says.{plain_says};
 
 use links::{Form, Width};
 
-#[derive(Drop)]
+#[derive(Clone, Copy)]
 pub enum PlainAnswer {
     // The length written.
     Sealed { len: usize },

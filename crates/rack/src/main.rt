@@ -31,7 +31,7 @@ fn turn(
 }
 
 // The lengths of message, tape and output.
-#[derive(Drop)]
+#[derive(Clone, Copy)]
 pub struct Lengths {
     pub message: usize,
     pub tape: usize,

@@ -8,7 +8,7 @@ ghost use Rattle.readable.specs.Tested.{record_number, record_says};
 
 use links::Width;
 
-#[derive(Drop)]
+#[derive(Clone, Copy)]
 pub enum RecordRefusal {
     NotKeyed,
     BadLength,
@@ -28,7 +28,7 @@ impl RecordRefusal {
     }
 }
 
-#[derive(Drop)]
+#[derive(Clone, Copy)]
 pub enum RecordTest {
     Passed,
     Refused(RecordRefusal),

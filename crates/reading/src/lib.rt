@@ -36,7 +36,7 @@ fn first_of(a: u32, b: u32) -> u32
 }
 
 // The words of a body by their kinds, each the first of its kind or 0 where there is none; and whether a word is bad.
-#[derive(Drop)]
+#[derive(Clone, Copy)]
 struct Found {
     bad: bool,
     of: [u32; 16],

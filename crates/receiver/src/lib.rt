@@ -28,13 +28,13 @@ pub struct Receiver {
     pub km: [u8; 16],
 }
 
-#[derive(Drop)]
+#[derive(Clone, Copy)]
 pub struct ReceiverKeying {
     pub answer: KeyAnswer,
     pub link: Receiver,
 }
 
-#[derive(Drop)]
+#[derive(Clone, Copy)]
 pub enum OpenAnswer {
     // The length written.
     Opened { len: usize },
@@ -62,7 +62,7 @@ impl OpenAnswer {
     }
 }
 
-#[derive(Drop)]
+#[derive(Clone, Copy)]
 pub struct Opening {
     pub answer: OpenAnswer,
     pub link: Receiver,

@@ -13,7 +13,7 @@ use sealable::{InputRefusal, InputTest, test_inputs};
 use shares::PAIRS;
 use walks::{LaneRefusal, LaneTest, Watch, test_lane};
 
-#[derive(Drop)]
+#[derive(Clone, Copy)]
 pub enum ReportAnswer {
     Shown,
     Inputs(InputRefusal),

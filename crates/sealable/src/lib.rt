@@ -32,7 +32,7 @@ impl InputRefusal {
     }
 }
 
-#[derive(Drop)]
+#[derive(Clone, Copy)]
 pub enum InputTest {
     Passed,
     Refused(InputRefusal),

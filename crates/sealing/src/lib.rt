@@ -35,7 +35,7 @@ impl SealAnswer {
 }
 
 // The tag's three shares stand one behind the other; zeros where the sealing is refused.
-#[derive(Drop)]
+#[derive(Clone, Copy)]
 pub struct Sealing {
     pub answer: SealAnswer,
     pub link: Sender,

@@ -193,7 +193,7 @@ pub fn mask(s: Triple, pair: Drawn) -> Triple
 
 // Where some rounds have led: the shares, with the masks behind the last round; the key's as it added them; and the count of tape
 // bytes read.
-#[derive(Drop)]
+#[derive(Clone, Copy)]
 pub struct Progress {
     pub state: Triple,
     pub key: Triple,
@@ -236,7 +236,7 @@ fn shown_key(k: Triple, n: usize) -> Triple
 }
 
 // A call's output, and what one of its pairs of masks shows: the state's shares just after it, and the key's.
-#[derive(Drop)]
+#[derive(Clone, Copy)]
 pub struct Called {
     pub out: Triple,
     pub state: Triple,

@@ -20,7 +20,7 @@ pub struct Watch {
 }
 
 // What a pair shows: the state's shares just after it, and the key's shares.
-#[derive(Drop)]
+#[derive(Clone, Copy)]
 pub struct Seen {
     pub state: Triple,
     pub key: Triple,
@@ -28,7 +28,7 @@ pub struct Seen {
 
 // Where the calls have led: the last call's output, how many calls are done, the tape bytes read, and what the watched
 // pair showed once it is passed.
-#[derive(Drop)]
+#[derive(Clone, Copy)]
 pub struct Walk {
     pub out: Triple,
     pub calls: usize,
@@ -68,7 +68,7 @@ pub fn step(w: Walk, key: Triple, input: Triple, tape: &[u8], watch: Watch) -> W
 }
 
 // A key's shares, masked, and the count of tape bytes read with the masks.
-#[derive(Drop)]
+#[derive(Clone, Copy)]
 pub struct Masked {
     pub key: Triple,
     pub used: usize,
@@ -90,7 +90,7 @@ pub fn mask_key(key: [u8; 48], tape: &[u8], used: usize) -> Masked
 // ---- the numbers of a lane
 
 // Why a lane cannot be shown.
-#[derive(Drop)]
+#[derive(Clone, Copy)]
 pub enum LaneRefusal {
     BadCall,
     BadRound,
@@ -113,7 +113,7 @@ impl LaneRefusal {
 }
 
 // What the test of a lane's numbers and of the room finds.
-#[derive(Drop)]
+#[derive(Clone, Copy)]
 pub enum LaneTest {
     Passed,
     Refused(LaneRefusal),
