@@ -3,7 +3,7 @@
 
 usage: tools/port_names.py           rewrites crates/*/{specs,proofs}/*.antt and the clauses of crates/*/src/*.rt
        tools/port_names.py --map     prints each old name with its new one
-Names of types, modules and Rust items keep their spelling. It says where two names fall together: today only with functions of src/, which keep theirs.
+Names of types, modules and Rust items keep their spelling. It says where two names fall together: with functions of src/, which keep theirs, and with lemmas, of which `last_block` of modes got its `_lem` by hand.
 """
 import re
 import subprocess
