@@ -8,11 +8,11 @@
 # a run of instructions that no jump, call or return leaves and no jump enters. The one around the
 # constant has to hold the doubling whole, with the highest bits of all sixteen bytes moved, each by
 # a shift of 7 or 31 places or eight by one shift of words; in `inputs::double_shares` it holds three.
-# Its function may have no instruction that looks at a flag, but for five jumps of `ctrmac::mac`, each
+# Its function may have no instruction that looks at a flag, but for four jumps of `ctrmac::mac`, each
 # by the text's length.
 set -euo pipefail
 
-awk -v doubling='ctrmac::first_subkey=0 ctrmac::mac=5 inputs::double_shares=0' '
+awk -v doubling='ctrmac::first_subkey=0 ctrmac::mac=4 inputs::double_shares=0' '
     # Looks at straight code, from instruction `first` to `last`, if it has the constant.
     function look(first, last,    k, here, moved) {
         for (k = first; k <= last; k++) {

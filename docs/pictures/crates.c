@@ -229,7 +229,8 @@ static void draw_words(int x, int y)
 /* The whole picture. */
 void draw_crates(void)
 {
-    enum { WIDE = 1200, LEFT = 24, TOP = 76, BETWEEN = 20 };
+    enum { LEFT = 24, TOP = 76, BETWEEN = 20 };
+    int wide = 1200;
     read_crates();
     find_reach();
     find_programs();
@@ -237,14 +238,19 @@ void draw_crates(void)
     lay_out(libraries);
     lay_out(programs);
 
+    if (wide < libraries->width + 2 * LEFT)
+        wide = libraries->width + 2 * LEFT;
+    if (wide < programs->width + 2 * LEFT)
+        wide = programs->width + 2 * LEFT;
+
     /* the programs stand beside the libraries; where there is no room, below them */
-    int lowest = TOP + STEP * (libraries->levels - 1), across = WIDE - LEFT - programs->width, top = TOP;
+    int lowest = TOP + STEP * (libraries->levels - 1), across = wide - LEFT - programs->width, top = TOP;
     if (across < LEFT + libraries->width + BETWEEN) {
         across = LEFT;
         top = lowest + 2 * STEP;
     }
     int words = top + STEP * programs->levels + 40, bottom = words + 124;
-    begin_picture(WIDE, bottom > lowest + STEP ? bottom : lowest + STEP, "The crates",
+    begin_picture(wide, bottom > lowest + STEP ? bottom : lowest + STEP, "The crates",
                   say("%d crates by level, the lowest at the bottom, with arrows to those that each uses.",
                       count));
     text(LEFT, 36, START, HEADING, "The crates");

@@ -1,5 +1,5 @@
 -- What an entry answers: it does its work and returns values, or refuses under a number. Assumes nothing.
-use Rattle.std.specs.Prelude.{◌≡◌, Bool, false, not, cond, List, [], ◌∷◌, ℕ, T, length, drop}
+use Rattle.std.specs.Prelude.{◌≡◌, Bool, false, not, cond, List, [], ◌∷◌, ℕ, T, length, drop, Result, Ok, Err}
 use Rattle.blocks.specs.Bytes.{put}
 
 pub data Answer : Type 0 where
@@ -29,6 +29,11 @@ Accepts a = number_of a ≡ 0
 abbrev pub values_of : Answer → List ℕ
 values_of (done vs) = vs
 values_of (refused n) = []
+
+-- what a function says that returns a value or refuses: v gives the values of what it returns, n the number of a refusal
+abbrev pub said : {A E : Type 0} → (A → List ℕ) → (E → ℕ) → Result A E → Answer
+said v n (Ok x) = done (v x)
+said v n (Err e) = refused (n e)
 
 -- x where the work was done, y where it was refused
 abbrev pub if_done {ℓ} : {A : Type ℓ} → Answer → A → A → A

@@ -1,45 +1,21 @@
--- What is printed for the first n bytes of a full buffer. Assumes nothing.
-use Rattle.prelude.proofs.{◌≡◌, ap, ap₂, sym, ◌∙◌, List, [], ◌∷◌, ◌++◌, ℕ, ◌+◌, ◌≤◌, arith, length, take, drop, length-append, length-take}
-use Rattle.prelude.proofs.{take-take, take-add, drop_at, length-take-le, eq-eqb, ne_eqb}
-use Rattle.blocks.specs.Bytes.{part, put}
-use Rattle.blocks.proofs.Parts.{put-put}
+-- What is printed for a key and a block. Assumes nothing.
+use Rattle.prelude.proofs.{◌≡◌, sym, ap, ◌∙◌, Bool, cond, take, drop, List, [], ◌∷◌, ◌++◌, ℕ, arith, length, take_all, length-drop, eq-eqb, set}
+use Rattle.std.proofs.lemmas.List.{set-append_right}
+use Rattle.blocks.specs.Bytes.{part}
 use Rattle.baksheesh.specs.Baksheesh.{encrypt}
 use Rattle.hex_digits.specs.Hex.{hex_of}
 use Rattle.block.specs.Printed.{printed}
 
--- what `answer` ensures, where it writes the text p
-abbrev Says : List ℕ → List ℕ → ℕ → List ℕ → Type 0
-Says p o r o' = (r ≡ length p) × (o' ≡ put 0 p o)
+-- a line feed stored behind the digits t
+line-feed : (t r : List ℕ) → length t ≡ 32 → length r ≡ 1 → set (t ++ r) 32 10 ≡ t ++ (10 ∷ [])
+line-feed t [] l m = absurd (omega arith)
+line-feed t (x ∷ []) l m = set-append_right t (x ∷ []) 32 32 10 l (omega arith)
+line-feed t (x ∷ y ∷ r) l m = absurd (omega arith)
 
-module _ (s : List ℕ) (full : length s ≡ 33) where
-  for-block : printed (take 32 s) ≡ hex_of (encrypt (part 0 16 s) (part 16 16 s)) ++ (10 ∷ [])
-  unfolding printed
-  for-block =
-      let l : length (take 16 s) ≡ 16 = length-take-le 16 s (omega arith) in
-      let all : take 32 s ≡ take 16 s ++ part 16 16 s = take-add 16 16 s in
-      rw (eq-eqb (length (take 32 s)) 32 (length-take-le 32 s (omega arith)))
-      (ap₂ (λ (k x : List ℕ). hex_of (encrypt k x) ++ (10 ∷ [])) (take-take 16 32 s (omega arith))
-      (ap (drop 16) all ∙ drop_at (take 16 s) (part 16 16 s) 16 l))
-
-  for-other : (n : ℕ) → (n ≡ 32 → ⊥) → printed (take n s) ≡ 108 ∷ 101 ∷ 110 ∷ 103 ∷ 116 ∷ 104 ∷ 10 ∷ []
-  unfolding printed
-  for-other n h = rw (ne_eqb (length (take n s)) 32 (λ e. h (omega (arith, length-take n s))))
-
-  pub says-ciphertext : (n : ℕ) (k b y t o o₁ o₂ : List ℕ) → n ≡ 32 → k ≡ part 0 16 s → b ≡ part 16 16 s → y ≡ encrypt k b
-      → t ≡ hex_of y → length t ≡ 32 → 33 ≤ length o → o₁ ≡ put 0 t o → o₂ ≡ put 32 (10 ∷ []) o₁ → Says (printed (take n s)) o 33 o₂
-  says-ciphertext n k b y t o o₁ o₂ e ek eb ey et l fits e₁ e₂ =
-      let text : t ++ (10 ∷ []) ≡ printed (take n s) =
-      ap (λ (z : List ℕ). z ++ (10 ∷ [])) (et ∙ ap hex_of (ey ∙ ap₂ encrypt ek eb))
-      ∙ sym for-block ∙ ap (λ (m : ℕ). printed (take m s)) (sym e) in (
-        omega (arith, ap length text, length-append t (10 ∷ [])),
-        e₂ ∙ ap (put 32 (10 ∷ [])) e₁ ∙ put-put 0 t (10 ∷ []) o 32 (omega arith) (omega arith) ∙ ap (λ (z : List ℕ). put 0 z o) text,
-      )
-
-  pub says-length : (n : ℕ) (o o' : List ℕ) → (n ≡ 32 → ⊥) → o' ≡ put 0 (108 ∷ 101 ∷ 110 ∷ 103 ∷ 116 ∷ 104 ∷ 10 ∷ []) o
-      → Says (printed (take n s)) o 7 o'
-  says-length n o o' h e = let text = for-other n h in (sym (ap length text), e ∙ ap (λ (z : List ℕ). put 0 z o) (sym text))
-
--- a text written from the start lies inside
-pub inside : (p o o' : List ℕ) (r : ℕ) → Says p o r o' → length o' ≡ length o → r ≤ length o'
-unfolding put
-inside p o o' r (e, d) l = omega (arith, ap length d, length-append p (drop (0 + length p) o))
+pub for_block : (s t r : List ℕ) → length s ≡ 32 → t ≡ hex_of (encrypt (part 0 16 s) (part 16 16 s)) → length t ≡ 32 → length r ≡ 1
+    → set (t ++ r) 32 10 ≡ printed s
+unfolding printed
+for_block s t r full e l m =
+    let block : part 16 16 s ≡ drop 16 s = take_all 16 (drop 16 s) (omega (arith, length-drop 16 s)) in
+    line-feed t r l m ∙ ap (λ (t : List ℕ). t ++ (10 ∷ [])) (e ∙ ap (λ (b : List ℕ). hex_of (encrypt (take 16 s) b)) block
+    ∙ ap (λ (b : Bool). cond b (hex_of (encrypt (take 16 s) (drop 16 s))) (108 ∷ 101 ∷ 110 ∷ 103 ∷ 116 ∷ 104 ∷ [])) (sym (eq-eqb (length s) 32 full)))

@@ -1,35 +1,30 @@
 // Reads a key and a block of 16 bytes each, and prints the ciphertext in hexadecimal; for any other length, `length`.
 #![tactic(auto)]
 
-ghost use Rattle.std.specs.Prelude.{◌≡◌, ◌≤◌, length, take, IfOk};
-ghost use Rattle.blocks.specs.Bytes.{put};
+ghost use Rattle.std.specs.Prelude.{◌≡◌};
 ghost use Rattle.block.specs.Printed.{printed};
 
 use std::io;
 use std::io::Read;
 
-// Writes what is printed for the first `n` bytes of `buffer`, and returns its length.
-fn answer(buffer: [u8; 33], n: usize, out: &mut [u8]) -> usize
-    requires { 33 ≤ length out.old }
-    ensures value { result ≡ length (printed (take n buffer)) }
-    ensures out_after { out.new ≡ put 0 (printed (take n buffer)) out.old }
+// What is printed for an input, of which `out` may hold the text.
+#[tactic(auto, unfolding(crate::specs::Printed::printed))]
+fn answer<'a>(input: &[u8], out: &'a mut [u8; 33]) -> &'a [u8]
+    ensures { result.now ≡ printed input.now }
 {
-    if n == 32 {
-        let key = blocks::block_at(&buffer, 0);
-        let block = blocks::block_at(&buffer, 16);
-        let text = hex_digits::digits(packed::encrypt(key, block));
-        blocks::put_bytes(&text, out, 0);
-        blocks::put_bytes(b"\n", out, 32);
-        return 33;
+    if input.len() != 32 {
+        return b"length\n";
     }
-    blocks::put_bytes(b"length\n", out, 0);
-    7
+    let key = blocks::bytes_at(input, 0);
+    let block = blocks::bytes_at(input, 16);
+    let text = hex_digits::digits(packed::encrypt(key, block));
+    out[..32].copy_from_slice(&text);
+    out[32] = b'\n';
+    out
 }
 
-// Reads until the buffer is full or the input ends, and returns how many bytes it put at the buffer's start.
-fn read_full(input: &mut impl Read, buffer: &mut [u8; 33]) -> io::Result<usize>
-    ensures { IfOk result (λ n. n ≤ 33) }
-{
+// What is read until the buffer is full or the input ends.
+fn read_full<'a>(input: &mut impl Read, buffer: &'a mut [u8; 33]) -> io::Result<&'a [u8]> {
     let mut n = 0;
     for _ in 0..u64::MAX {
         if n == 33 {
@@ -45,14 +40,12 @@ fn read_full(input: &mut impl Read, buffer: &mut [u8; 33]) -> io::Result<usize>
             }
         }
     }
-    Ok(n)
+    Ok(&buffer[..n])
 }
 
 // Reads one byte more than key and block have, so that a longer input shows.
 fn main(rt: HostRuntime) -> io::Result<()> {
-    let mut buffer = [0u8; 33];
-    let n = read_full(&mut rt.stdin(), &mut buffer)?;
-    let mut out = [0u8; 33];
-    let m = answer(buffer, n, &mut out);
-    rt.write_all(&out[..m])
+    let mut buffer = [0; 33];
+    let input = read_full(&mut rt.stdin(), &mut buffer)?;
+    rt.write_all(answer(input, &mut [0; 33]))
 }

@@ -5,3 +5,4 @@ pub mod Parts
 pub mod Same
 pub mod Written
 pub mod ByBytes
+pub mod Arrays

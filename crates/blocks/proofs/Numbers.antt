@@ -2,7 +2,7 @@
 use Rattle.prelude.proofs.{◌≡◌, refl, sym, ap, ap₂, ◌∙◌, subst, List, [], ◌∷◌, ◌++◌, ℕ, zero, suc, ◌+◌, ◌-◌, ◌*◌, ◌/◌, ◌%◌, ◌^◌, ◌≤◌, ◌<◌}
 use Rattle.prelude.proofs.{mod-eq_of_lt, pow-suc, pow-succ', pow-le-pow_right, mul_assoc, add_comm, zero-add, suc-add, one-le-pow}
 use Rattle.prelude.proofs.{lt_of_lt_of_le, add-mul-div_right, div-div-eq-div-mul, div-eq_of_lt, div-one, add-one, arith, digits_div}
-use Rattle.prelude.proofs.{digits_lt, mod-mul, length, get_or, set, replicate, length-append}
+use Rattle.prelude.proofs.{digits_lt, mod-mul, length, get_or, set, replicate, length-append, take, drop, get_or-take, get_or-drop}
 use Rattle.blocks.specs.Bytes.{Bytes, big_endian, value, part, put}
 use Rattle.blocks.proofs.Parts.{part_length, part_bytes, part-more, put-none, put-length, set-put}
 
@@ -103,6 +103,15 @@ pub more-fits : (at i : ℕ) (s : List ℕ) → Bytes s → at + i < length s �
 more-fits at i s b h l e =
     rw (value-more at i s h e)
     (lt_of_lt_of_le (part-lt at (i + 1) s b (omega arith)) (pow-le-pow_right {n = 256} (omega arith) {i = i + 1} {j = 8} (omega arith)))
+
+-- the bytes of a part: how many, and each of them
+pub part-span : (at w : ℕ) (s : List ℕ) → at + w ≤ length s → length (take (at + w - at) (drop at s)) ≡ w
+part-span at w s h =
+    let n : at + w - at ≡ w = omega arith in
+    rw n (part_length at w s h)
+
+pub part-item : (at w i : ℕ) (s : List ℕ) → i < w → get_or (take (at + w - at) (drop at s)) i 0 ≡ get_or s (at + i) 0
+part-item at w i s h = get_or-take (at + w - at) (drop at s) i 0 (omega arith) ∙ get_or-drop at s i 0
 
 -- ---- writing w bytes of x from at, the last one first: before the first turn, the length, a turn, and the end
 

@@ -1,6 +1,6 @@
 -- Tests joined, and the test whether two lists are the same. Assumes nothing.
-use Rattle.prelude.proofs.{◌≡◌, refl, sym, ap, ap₂, ◌∙◌, Bool, true, false, ◌&&◌, ◌||◌, and-true, and-false, and_assoc, false≢true, List}
-use Rattle.prelude.proofs.{[], ◌∷◌, ◌++◌, ℕ, ◌+◌, ◌<◌, zero-add, arith, eqb, length, take, get_or, length-take-le, eqb-true, eq-eqb, ne_eqb}
+use Rattle.prelude.proofs.{◌≡◌, refl, sym, ap, ap₂, ◌∙◌, Bool, true, false, ◌&&◌, ◌||◌, and-true, and_assoc, false≢true, List}
+use Rattle.prelude.proofs.{[], ◌∷◌, ◌++◌, ℕ, ◌+◌, ◌<◌, zero-add, arith, eqb, length, take, get_or, length-take-le, eqb-true, eq-eqb}
 use Rattle.blocks.specs.Bytes.{same_bytes, part}
 use Rattle.blocks.proofs.Parts.{part_length, part-more}
 
@@ -40,15 +40,9 @@ module _ (b s : List ℕ) (at : ℕ) where
   compared i = same_bytes (take i b) (part at i s)
 
   module _ (i : ℕ) (h : i < length b) (l : at + i < length s) where
-    more : compared (i + 1) ≡ (compared i && eqb (get_or b i 0) (get_or s (at + i) 0))
-    more =
+    pub compared-more : compared (i + 1) ≡ (compared i && eqb (get_or b i 0) (get_or s (at + i) 0))
+    compared-more =
         ap₂ same_bytes (part-more 0 i b (omega arith)) (part-more at i s l)
         ∙ same-append (take i b) (part at i s) (get_or b (0 + i) 0) (get_or s (at + i) 0)
         (length-take-le i b (omega arith) ∙ sym (part_length at i s (omega arith)))
         ∙ ap (λ (k : ℕ). compared i && eqb (get_or b k 0) (get_or s (at + i) 0)) (zero-add i)
-
-    pub compare_same : {v w : Bool} → v ≡ compared i → get_or b i 0 ≡ get_or s (at + i) 0 → w ≡ v → w ≡ compared (i + 1)
-    compare_same e q d = d ∙ e ∙ sym (more ∙ ap (λ (t : Bool). compared i && t) (eq-eqb _ _ q) ∙ and-true (compared i))
-
-    pub compare-other : {w : Bool} → (get_or b i 0 ≡ get_or s (at + i) 0 → ⊥) → w ≡ false → w ≡ compared (i + 1)
-    compare-other q d = d ∙ sym (more ∙ ap (λ (t : Bool). compared i && t) (ne_eqb _ _ q) ∙ and-false (compared i))

@@ -9,10 +9,9 @@ pub fn number_at(s: &[u8], at: usize, w: usize) -> u64
     requires { (w ≤ 8) × (at + w ≤ length s.now) }
     ensures { result ≡ value (part at w s.now) }
 {
-    let mut number: u64 = 0;
-    for i in 0..w {
-        let byte = s[at + i] as u64;
-        number = number * 256 + byte;
+    let mut number = 0;
+    for byte in &s[at..at + w] {
+        number = number * 256 + u64::from(*byte);
     }
     number
 }
@@ -31,9 +30,7 @@ pub fn put_number(out: &mut [u8], at: usize, w: usize, x: u64)
     ensures { out.new ≡ put at (big_endian w x) out.old }
 {
     let mut rest = x;
-    let mut i = w;
-    while 0 < i {
-        i -= 1;
+    for i in (0..w).rev() {
         out[at + i] = (rest % 256) as u8;
         rest /= 256;
     }
@@ -44,31 +41,17 @@ pub fn put_bytes(src: &[u8], out: &mut [u8], at: usize)
     requires { at + length src.now ≤ length out.old }
     ensures { out.new ≡ put at src.now out.old }
 {
-    let mut i = 0;
-    while i < src.len() {
-        out[at + i] = src[i];
-        i += 1;
-    }
+    out[at..at + src.len()].copy_from_slice(src);
 }
 
-// The 16 bytes from `at`.
-pub fn block_at(s: &[u8], at: usize) -> [u8; 16]
-    requires { at + 16 ≤ length s.now }
-    ensures { result ≡ part at 16 s.now }
+// The N bytes from `at`.
+pub fn bytes_at<const N: usize>(s: &[u8], at: usize) -> [u8; N]
+    requires { at + N ≤ length s.now }
+    ensures { result ≡ part at N s.now }
 {
-    let mut block = [0u8; 16];
-    put_bytes(&s[at..at + 16], &mut block, 0);
-    block
-}
-
-// The three blocks from `at`.
-pub fn blocks_at(s: &[u8], at: usize) -> [u8; 48]
-    requires { at + 48 ≤ length s.now }
-    ensures { result ≡ part at 48 s.now }
-{
-    let mut blocks = [0u8; 48];
-    put_bytes(&s[at..at + 48], &mut blocks, 0);
-    blocks
+    let mut bytes = [0u8; N];
+    bytes.copy_from_slice(&s[at..at + N]);
+    bytes
 }
 
 // Three blocks, one behind the other.
@@ -89,9 +72,7 @@ pub fn same_at(block: [u8; 16], n: usize, s: &[u8], at: usize) -> bool
 {
     let mut same = true;
     for i in 0..n {
-        if block[i] != s[at + i] {
-            same = false;
-        }
+        same &= block[i] == s[at + i];
     }
     same
 }

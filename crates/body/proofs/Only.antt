@@ -11,7 +11,7 @@ use Rattle.answers.proofs.First.{accepts-none, done-before}
 use Rattle.body.specs.Mark.{offset_in, mark_in, offset_fits, fits, word_bytes, offset_word, written, values}
 use Rattle.body.specs.Entry.{read_causes, read_answer}
 use Rattle.body.specs.declared.Mark.{Mark}
-use Rattle.body.specs.declared.Offset.TheVariants.{Missing, Minutes}
+use Rattle.std.specs.Prelude.{Some, None}
 use Rattle.body.specs.Words.{fields, kind, field, words, word_of, has, minutes, offset_in_range, bad, any_bad, InOrder}
 use Rattle.body.proofs.Signed.{residue-signed}
 use Rattle.body.proofs.Words.{bad-offset, word-here, word-later, word-not-zero}
@@ -117,16 +117,16 @@ offset_word_lem : (w : ℕ) (t : Bool) → eqb w 0 ≡ t → (t ≡ false → (k
     → (offset_fits (offset_in w) ≡ true) × (spelled (with w []) ≡ offset_word (offset_in w))
 unfolding spelled
 offset_word_lem w true e h = (
-  ap (λ (t : Bool). offset_fits (cond t Missing (Minutes (minutes (field w))))) e,
-  ap (λ (t : Bool). spelled (cond t [] (w ∷ []))) e ∙ sym (ap (λ (t : Bool). offset_word (cond t Missing (Minutes (minutes (field w))))) e),
+  ap (λ (t : Bool). offset_fits (cond t None (Some (minutes (field w))))) e,
+  ap (λ (t : Bool). spelled (cond t [] (w ∷ []))) e ∙ sym (ap (λ (t : Bool). offset_word (cond t None (Some (minutes (field w))))) e),
 )
 offset_word_lem w false e h =
     let k = (h refl).0 in
     let same : w ≡ 4 * fields + field w = omega arith in (
-      ap (λ (t : Bool). offset_fits (cond t Missing (Minutes (minutes (field w))))) e ∙ (h refl).1,
+      ap (λ (t : Bool). offset_fits (cond t None (Some (minutes (field w))))) e ∙ (h refl).1,
       ap (λ (t : Bool). spelled (cond t [] (w ∷ []))) e ∙ append-nil (big_endian 4 w) ∙ ap (big_endian 4) same
           ∙ ap (λ (f : ℕ). word_bytes 4 f) (sym (residue-signed fields (field w) (omega arith)))
-          ∙ sym (ap (λ (t : Bool). offset_word (cond t Missing (Minutes (minutes (field w))))) e),
+          ∙ sym (ap (λ (t : Bool). offset_word (cond t None (Some (minutes (field w))))) e),
     )
 
 module _ (b : List ℕ) (R : NoneOf (read_causes b)) where

@@ -1,5 +1,5 @@
 -- The values of a mark in its ranges say that mark. Assumes nothing.
-use Rattle.prelude.proofs.{◌≡◌, refl, sym, ap, ◌∙◌, true, List, ◌++◌, ℕ, ◌*◌, ◌<◌, ◌^◌, arith, drop, get_or, ltb, ltb-true}
+use Rattle.prelude.proofs.{◌≡◌, refl, sym, ap, ◌∙◌, true, List, ◌++◌, ℕ, ◌*◌, ◌<◌, ◌^◌, arith, drop, get_or, ltb, ltb-true, ℤ}
 use Rattle.blocks.specs.Bytes.{big_endian, value}
 use Rattle.blocks.proofs.Parts.{parted}
 use Rattle.blocks.proofs.Numbers.{big_endian-length, big_endian-says}
@@ -8,8 +8,7 @@ use Rattle.body.specs.Signed.{residue, signed}
 use Rattle.body.specs.Words.{fields}
 use Rattle.body.specs.Mark.{offset_fits, fits, offset_values, values}
 use Rattle.body.specs.declared.Mark.{Mark}
-use Rattle.body.specs.declared.Offset.{Offset}
-use Rattle.body.specs.declared.Offset.TheVariants.{Missing, Minutes}
+use Rattle.std.specs.Prelude.{Option, Some, None}
 use Rattle.body.proofs.Signed.{residue-lt, signed-residue, offset-small}
 
 -- what `fits` says
@@ -30,17 +29,17 @@ numbers-parted w x y c d hx hy e =
     let both = parted (big_endian w x) (big_endian w y) c d (big_endian-length w x ∙ sym (big_endian-length w y)) e in
     (sym (big_endian-says w x hx) ∙ ap value both.0 ∙ big_endian-says w y hy, both.1)
 
-offset-same : (s t : Offset) → offset_fits s ≡ true → offset_fits t ≡ true → offset_values s ≡ offset_values t → s ≡ t
-offset-same Missing Missing hs ht e = refl
-offset-same Missing (Minutes z) hs ht e = absurd (let h : ◌≡◌ {A = ℕ} 0 1 = ap (λ (l : List ℕ). get_or l 0 0) e in omega arith)
-offset-same (Minutes z) Missing hs ht e = absurd (let h : ◌≡◌ {A = ℕ} 1 0 = ap (λ (l : List ℕ). get_or l 0 0) e in omega arith)
-offset-same (Minutes y) (Minutes z) hs ht e =
+offset-same : (s t : Option ℤ) → offset_fits s ≡ true → offset_fits t ≡ true → offset_values s ≡ offset_values t → s ≡ t
+offset-same None None hs ht e = refl
+offset-same None (Some z) hs ht e = absurd (let h : ◌≡◌ {A = ℕ} 0 1 = ap (λ (l : List ℕ). get_or l 0 0) e in omega arith)
+offset-same (Some z) None hs ht e = absurd (let h : ◌≡◌ {A = ℕ} 1 0 = ap (λ (l : List ℕ). get_or l 0 0) e in omega arith)
+offset-same (Some y) (Some z) hs ht e =
     let h = offset-small y hs in
     let l = offset-small z ht in
     let same : residue (2 ^ 32) y ≡ residue (2 ^ 32) z =
     sym (big_endian-says 4 _ (residue-lt (2 ^ 32) y (omega arith))) ∙ ap (λ (l : List ℕ). value (drop 1 l)) e
     ∙ big_endian-says 4 _ (residue-lt (2 ^ 32) z (omega arith)) in
-    ap Minutes (sym (signed-residue (2 ^ 32) y (omega arith)) ∙ ap (signed (2 ^ 32)) same ∙ signed-residue (2 ^ 32) z (omega arith))
+    ap Some (sym (signed-residue (2 ^ 32) y (omega arith)) ∙ ap (signed (2 ^ 32)) same ∙ signed-residue (2 ^ 32) z (omega arith))
 
 pub values-injective : (m n : Mark) → fits m ≡ true → fits n ≡ true → values m ≡ values n → m ≡ n
 values-injective m n fm fn e =

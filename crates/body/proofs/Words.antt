@@ -18,14 +18,13 @@ module _ (seen : Bool) (w : ℕ) where
   pub bad-skipped : 4 ≤ kind w → (kind w ≡ 4 → ⊥) → bad seen w ≡ false
   bad-skipped h n = simp (ne_eqb (kind w) 0 (omega arith), lt-leb (kind w) 4 (omega arith), ne_eqb (kind w) 4 n)
 
+-- with more words behind them, and with one more
+pub any-append : (before ws vs : List ℕ) → any_bad before (ws ++ vs) ≡ (any_bad before ws || any_bad (before ++ ws) vs)
+any-append before [] vs = ap (λ (l : List ℕ). any_bad l vs) (sym (append-nil before))
+any-append before (w ∷ ws) vs = simp (any-append (before ++ (w ∷ [])) ws vs, append_assoc, or_assoc)
+
 pub any-more : (before ws : List ℕ) (w : ℕ) → any_bad before (ws ++ (w ∷ [])) ≡ (any_bad before ws || bad (has (kind w) (before ++ ws)) w)
-any-more before [] w =
-    or-false (bad (has (kind w) before) w) ∙ ap (λ (l : List ℕ). bad (has (kind w) l) w) (sym (append-nil before))
-any-more before (v ∷ ws) w =
-    ap (λ (b : Bool). bad (has (kind v) before) v || b)
-    (any-more (before ++ (v ∷ [])) ws w
-    ∙ ap (λ (l : List ℕ). any_bad (before ++ (v ∷ [])) ws || bad (has (kind w) l) w) (append_assoc before (v ∷ []) ws))
-    ∙ sym (or_assoc (bad (has (kind v) before) v) (any_bad (before ++ (v ∷ [])) ws) (bad (has (kind w) (before ++ (v ∷ ws))) w))
+any-more before ws w = any-append before ws (w ∷ []) ∙ ap (λ (b : Bool). any_bad before ws || b) (or-false _)
 
 -- ---- the first word of a kind
 

@@ -1,14 +1,15 @@
 -- A body and the values of a mark, written part by part. Assumes nothing.
-use Rattle.prelude.proofs.{◌≡◌, refl, sym, ap, ◌∙◌, List, [], ◌∷◌, ◌++◌, append_assoc, ℕ, suc, ◌+◌, ◌^◌, ◌≤◌, length, length-append}
-use Rattle.prelude.proofs.{arith, ℤ}
+use Rattle.prelude.proofs.{◌≡◌, refl, sym, ap, ◌∙◌, List, ◌++◌, append_assoc, ℕ, suc, ◌+◌, ◌^◌, ◌≤◌, length, length-append}
+use Rattle.prelude.proofs.{arith, cond, ◌/◌, ◌%◌, ℤ, pos}
 use Rattle.blocks.specs.Bytes.{put, big_endian}
 use Rattle.blocks.proofs.Parts.{put-put}
 use Rattle.blocks.proofs.Numbers.{big_endian-length}
 use Rattle.body.specs.Signed.{residue}
-use Rattle.body.specs.Mark.{offset_word, written, offset_values, values}
+use Rattle.body.specs.Words.{fields}
+use Rattle.body.specs.Mark.{word_bytes, offset_word, written, offset_values, values}
 use Rattle.body.specs.declared.Mark.{Mark}
-use Rattle.body.specs.declared.Offset.{Offset}
-use Rattle.body.specs.declared.Offset.TheVariants.{Missing, Minutes}
+use Rattle.std.specs.Prelude.{Option, Some, None, is_some, unwrap_or}
+use Rattle.std.specs.Int.{from_bool}
 
 -- ys behind xs
 pub behind : (n : ℕ) (xs ys o : List ℕ) {out next : List ℕ} → out ≡ put 0 xs o → n ≡ length xs → n ≤ length o → next ≡ put n ys out
@@ -37,19 +38,32 @@ three-and u v w x y z ds o h ea eb ec ed =
 pub written-length : (m : Mark) → length (written m) ≡ 12 + length (offset_word m.offset)
 written-length m = simp (length-append, big_endian-length) (omega arith)
 
+pub written_size : (m : Mark) → length (written m) ≡ cond (is_some m.offset) 16 12
+written_size m = written-length m ∙ by m.offset
+  where
+    by : (t : Option ℤ) → 12 + length (offset_word t) ≡ cond (is_some t) 16 12
+    by None = refl
+    by (Some z) = ap (λ (n : ℕ). 12 + n) (big_endian-length 4 _)
+
 -- the values say an offset in five bytes, and are 17
-offset-length : (s : Offset) → length (offset_values s) ≡ 5
-offset-length Missing = ap suc (big_endian-length 4 0)
-offset-length (Minutes z) = ap suc (big_endian-length 4 _)
+offset-length : (s : Option ℤ) → length (offset_values s) ≡ 5
+offset-length None = ap suc (big_endian-length 4 0)
+offset-length (Some z) = ap suc (big_endian-length 4 _)
 
 pub values_length : (m : Mark) → length (values m) ≡ 17
 values_length m = simp (length-append, big_endian-length, offset-length)
 
-pub no-offset : big_endian 5 0 ≡ offset_values Missing
+-- whether there is an offset, as a number, and the offset or else 0
+pub offset-parts : (t : Option ℤ) (g r : ℕ) → g ≡ from_bool (is_some t) → r ≡ residue (2 ^ 32) (unwrap_or t (pos 0))
+    → big_endian 1 g ++ big_endian 4 r ≡ offset_values t
 unfolding big_endian
-no-offset = refl
+offset-parts None g r e d = λ i. big_endian 1 (e i) ++ big_endian 4 (d i)
+offset-parts (Some z) g r e d = λ i. big_endian 1 (e i) ++ big_endian 4 (d i)
 
-pub given-offset : (z : ℤ) (o : List ℕ) {b c : List ℕ} → 17 ≤ length o → b ≡ put 12 (big_endian 1 1) o
-    → c ≡ put 13 (big_endian 4 (residue (2 ^ 32) z)) b → c ≡ put 12 (offset_values (Minutes z)) o
-unfolding big_endian
-given-offset z o h eb ec = ec ∙ ap (put 13 (big_endian 4 (residue (2 ^ 32) z))) eb ∙ put-put 12 (1 ∷ []) _ o 13 (omega arith) (omega arith)
+-- the three words of a mark, and ds behind them
+pub written-parts : (m : Mark) (f : ℕ) (ds o : List ℕ) {a b c d : List ℕ} → a ≡ put 0 (word_bytes 1 (m.seconds / fields)) o
+    → b ≡ put 4 (word_bytes 2 (m.seconds % fields)) a → c ≡ put 8 (word_bytes 3 f) b → d ≡ put 12 ds c → 12 ≤ length o
+    → f ≡ m.fraction → ds ≡ offset_word m.offset → d ≡ put 0 (written m) o
+written-parts m f ds o ea eb ec ed h ef es =
+    three-and 4 4 4 _ _ _ ds o h ea eb ec ed
+    ∙ λ i. put 0 (word_bytes 1 (m.seconds / fields) ++ (word_bytes 2 (m.seconds % fields) ++ (word_bytes 3 (ef i) ++ es i))) o

@@ -1,7 +1,7 @@
 -- Reading a written body gives its values. Assumes nothing.
 use Rattle.prelude.proofs.{◌≡◌, refl, sym, ap, ap₂, ◌∙◌, Bool, true, false, not, cond, ◌&&◌, ◌||◌, List, [], ◌∷◌, ◌++◌, ℕ, suc, ◌+◌, ◌*◌}
 use Rattle.prelude.proofs.{◌/◌, ◌%◌, ◌^◌, ◌<◌, ◌≤◌, arith, length, length-append, take, take_at, drop-append-add, eqb, eq-eqb, append-nil}
-use Rattle.prelude.proofs.{not-false}
+use Rattle.prelude.proofs.{not-false, ℤ}
 use Rattle.blocks.specs.Bytes.{big_endian, value, part, put, tab}
 use Rattle.blocks.proofs.Numbers.{big_endian-length, big_endian-says}
 use Rattle.blocks.proofs.{ByBytes.tab-same, Parts.tab-cons}
@@ -13,12 +13,11 @@ use Rattle.body.specs.Words.{fields, kind, field, words, word_of, has, minutes, 
 use Rattle.body.specs.Mark.{mark_of, mark_in, offset_in, offset_fits, fits, offset_word, written, values}
 use Rattle.body.specs.Entry.{right_length, read_causes, read_answer, values_output, write_causes, write_answer, write_output}
 use Rattle.body.specs.declared.Mark.{Mark}
-use Rattle.body.specs.declared.Offset.{Offset}
-use Rattle.body.specs.declared.Offset.TheVariants.{Missing, Minutes}
+use Rattle.std.specs.Prelude.{Option, Some, None, is_some}
 use Rattle.body.proofs.Signed.{residue-lt, signed-residue, offset-small}
 use Rattle.body.proofs.Words.{bad-needed, bad-offset, word-here, word-later, word-not-zero}
 use Rattle.body.proofs.Answers.{values-read, values-done}
-use Rattle.body.proofs.Writing.{written-length}
+use Rattle.body.proofs.Writing.{written_size}
 use Rattle.body.proofs.Values.{Fitting, fitting}
 
 -- ---- the words of bytes
@@ -101,33 +100,29 @@ good-offset a b c d ka kb kc kd h =
 
 -- ---- the words of a written body, and what reading them gives
 
-abbrev offset_words : Offset → List ℕ
-offset_words Missing = []
-offset_words (Minutes z) = (4 * fields + residue fields z) ∷ []
+abbrev offset_words : Option ℤ → List ℕ
+offset_words None = []
+offset_words (Some z) = (4 * fields + residue fields z) ∷ []
 
-offset-words : (t : Offset) → words (offset_word t) ≡ offset_words t
-offset-words Missing = words-none
-offset-words (Minutes z) =
+offset-words : (t : Option ℤ) → words (offset_word t) ≡ offset_words t
+offset-words None = words-none
+offset-words (Some z) =
     let l = residue-lt fields z (omega arith) in
     let w = 4 * fields + residue fields z in
     ap words (sym (append-nil (big_endian 4 w))) ∙ words-cons w [] (omega arith) ∙ ap (λ (l : List ℕ). w ∷ l) words-none
 
-offset_read : (t : Offset) → offset_fits t ≡ true → offset_in (word_of 4 (offset_words t)) ≡ t
-offset_read Missing h = refl
-offset_read (Minutes z) h =
+offset_read : (t : Option ℤ) → offset_fits t ≡ true → offset_in (word_of 4 (offset_words t)) ≡ t
+offset_read None h = refl
+offset_read (Some z) h =
     let l = residue-lt fields z (omega arith) in
     let s = offset-small z h in
     let w = 4 * fields + residue fields z in
     let k = kind-word 4 (residue fields z) l in
-    ap offset_in (word-here 4 w [] k) ∙ ap (λ (b : Bool). cond b Missing (Minutes (minutes (field w)))) (word-not-zero 4 w (omega arith) k)
-    ∙ ap (λ (f : ℕ). Minutes (minutes f)) (field-word 4 (residue fields z) l) ∙ ap Minutes (signed-residue fields z (omega arith))
+    ap offset_in (word-here 4 w [] k) ∙ ap (λ (b : Bool). cond b None (Some (minutes (field w)))) (word-not-zero 4 w (omega arith) k)
+    ∙ ap (λ (f : ℕ). Some (minutes f)) (field-word 4 (residue fields z) l) ∙ ap Some (signed-residue fields z (omega arith))
 
 right-size : (m : Mark) → right_length (length (written m)) ≡ true
-right-size m = ap right_length (written-length m) ∙ by m.offset
-  where
-    by : (t : Offset) → right_length (12 + length (offset_word t)) ≡ true
-    by Missing = refl
-    by (Minutes z) = ap (λ (n : ℕ). right_length (12 + n)) (big_endian-length 4 _)
+right-size m = ap right_length (written_size m) ∙ elim (is_some m.offset) as (λ b. right_length (cond b 16 12) ≡ true) [ true ↦ refl | false ↦ refl ]
 
 module _ (m : Mark) (F : Fitting m) where
   abbrev high : ℕ
@@ -165,9 +160,9 @@ module _ (m : Mark) (F : Fitting m) where
   good : any_bad [] the_words ≡ false
   good = none-bad high low third (offset_words m.offset) k₁ k₂ k₃ ∙ by m.offset F.offset
     where
-      by : (t : Offset) → offset_fits t ≡ true → any_bad (high ∷ low ∷ third ∷ []) (offset_words t) ≡ false
-      by Missing h = refl
-      by (Minutes z) h =
+      by : (t : Option ℤ) → offset_fits t ≡ true → any_bad (high ∷ low ∷ third ∷ []) (offset_words t) ≡ false
+      by None h = refl
+      by (Some z) h =
           let l = residue-lt fields z (omega arith) in
           let s = offset-small z h in
           good-offset high low third _ k₁ k₂ k₃ (kind-word 4 (residue fields z) l)
@@ -209,5 +204,5 @@ stored-read-written m o v a h =
     let put' : write_output m o ≡ put 0 (written m) o = sym (if-done (done_none (write_causes m (length o)) _ none) _ o) in
     let body = ap (take (length (written m))) put' ∙ part-there 0 (written m) o (omega arith) _ refl in
     ap (λ (b : List ℕ). values_output b v) body
-    ∙ sym (if-done (values-done (written m) (length v) said h) _ v)
+    ∙ sym (if-done (values-done (written m) said (length v) h) _ v)
     ∙ ap (λ (l : List ℕ). put 0 l v) (values-read (written m) said)

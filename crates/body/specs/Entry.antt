@@ -1,21 +1,25 @@
 -- What reading and writing a body answer, and their outputs at the end. Assumes nothing.
-use Rattle.std.specs.Prelude.{Bool, not, ◌&&◌, List, [], ◌∷◌, ◌++◌, ℕ, ◌%◌, eqb, leb, ltb, length}
-use Rattle.answers.specs.Answer.{Answer, done, refused, Cause, ◌when◌, first, output}
+use Rattle.std.specs.Prelude.{Bool, not, ◌&&◌, List, [], ◌∷◌, ◌++◌, ℕ, ◌%◌, eqb, leb, ltb, length, Result}
+use Rattle.answers.specs.Answer.{Answer, done, said, Cause, ◌when◌, first, output}
 use Rattle.body.specs.Words.{words, has, any_bad}
 use Rattle.body.specs.Mark.{mark_in, fits, written, values}
 use Rattle.body.specs.declared.Mark.{Mark}
-use Rattle.body.specs.declared.ReadAnswer.{ReadAnswer}
-use Rattle.body.specs.declared.ReadAnswer.TheVariants.{Read, BadLength, BadWord, MissingKind}
-use Rattle.body.specs.declared.WriteAnswer.{WriteAnswer}
-use Rattle.body.specs.declared.WriteAnswer.TheVariants.{Written, BadValue, ShortOutput}
+use Rattle.body.specs.declared.ReadRefusal.{ReadRefusal}
+use Rattle.body.specs.declared.ReadRefusal.TheVariants.{BadLength, BadWord, MissingKind}
+use Rattle.body.specs.declared.ValuesRefusal.{ValuesRefusal}
+use Rattle.body.specs.declared.ValuesRefusal.TheVariants.{Body, ShortOutput as NoRoom}
+use Rattle.body.specs.declared.WriteRefusal.{WriteRefusal}
+use Rattle.body.specs.declared.WriteRefusal.TheVariants.{BadValue, ShortOutput}
 
 -- ---- reading
 
-abbrev pub read_says : ReadAnswer → Answer
-read_says (Read m) = done (values m)
-read_says BadLength = refused 30
-read_says BadWord = refused 31
-read_says MissingKind = refused 32
+abbrev pub read_number : ReadRefusal → ℕ
+read_number BadLength = 30
+read_number BadWord = 31
+read_number MissingKind = 32
+
+abbrev pub read_says : Result Mark ReadRefusal → Answer
+read_says = said values read_number
 
 -- 4 to 256 in steps of 4
 abbrev pub right_length : ℕ → Bool
@@ -32,6 +36,13 @@ read_causes b =
 unfoldable pub read_answer : List ℕ → Answer
 read_answer b = first (read_causes b) (done (values (mark_in (words b))))
 
+abbrev pub values_number : ValuesRefusal → ℕ
+values_number (Body why) = read_number why
+values_number NoRoom = 4
+
+abbrev pub values_says : Result Unit ValuesRefusal → Answer
+values_says = said (λ _. []) values_number
+
 -- into an output of o bytes: its values need 17
 abbrev pub values_causes : List ℕ → ℕ → List Cause
 values_causes b o = read_causes b ++ ((4 when ltb o 17) ∷ [])
@@ -44,10 +55,12 @@ values_output b o = output (values_answer b (length o)) (values (mark_in (words 
 
 -- ---- writing
 
-abbrev pub write_says : WriteAnswer → Answer
-write_says (Written n) = done (n ∷ [])
-write_says BadValue = refused 31
-write_says ShortOutput = refused 4
+abbrev pub write_number : WriteRefusal → ℕ
+write_number BadValue = 31
+write_number ShortOutput = 4
+
+abbrev pub write_says : Result ℕ WriteRefusal → Answer
+write_says = said (λ n. n ∷ []) write_number
 
 -- into an output of o bytes
 abbrev pub write_causes : Mark → ℕ → List Cause

@@ -1,79 +1,90 @@
-// The body of a mark: words of 32 bits, each with its kind in the top four and a field in the others. What reading and writing
-// one answer, and the local offset in two's complement.
+// The body of a mark: words of 32 bits, each with its kind in the top four and a field in the others. A mark, why one is not read
+// or not written, and the local offset in two's complement.
 #![tactic(auto)]
 
 ghost use Rattle.std.specs.Prelude.{◌≡◌, ◌<◌};
 ghost use Rattle.std.specs.Int.Signed.{mag};
-ghost use Rattle.answers.specs.Answer.{number_of};
 ghost use Rattle.body.specs.Signed.{residue};
 ghost use Rattle.body.specs.Words.{fields, minutes, offset_in_range};
-ghost use Rattle.body.specs.Entry.{read_says, write_says};
+ghost use Rattle.body.specs.Entry.{read_number, values_number, write_number};
 
-// The local offset.
-#[derive(Clone, Copy)]
-pub enum Offset {
-    Missing,
-    // In minutes.
-    Minutes(i32),
-}
-
-#[derive(Clone, Copy)]
+#[derive(Clone, Copy, Debug, PartialEq, Eq)]
 pub struct Mark {
     pub seconds: u64,
     // In 2^-28 seconds.
     pub fraction: u32,
-    pub offset: Offset,
+    // The local offset in minutes, where there is one.
+    pub offset: Option<i32>,
 }
 
-#[derive(Clone, Copy)]
-pub enum ReadAnswer {
-    Read(Mark),
+// Why a body is not read.
+#[derive(Clone, Copy, Debug, PartialEq, Eq)]
+pub enum ReadRefusal {
     BadLength,
     BadWord,
     MissingKind,
 }
 
-impl ReadAnswer {
-    // 0, or the refusal's number.
-    pub fn number(self) -> u32
-        ensures { result ≡ number_of (read_says self) }
-    {
-        match self {
-            ReadAnswer::Read(_) => 0,
-            ReadAnswer::BadLength => 30,
-            ReadAnswer::BadWord => 31,
-            ReadAnswer::MissingKind => 32,
+impl From<ReadRefusal> for u32 {
+    ghost from_gives = { λ why n. n ≡ read_number why };
+
+    fn from(why: ReadRefusal) -> u32 {
+        match why {
+            ReadRefusal::BadLength => 30,
+            ReadRefusal::BadWord => 31,
+            ReadRefusal::MissingKind => 32,
         }
     }
 }
 
-#[derive(Clone, Copy)]
-pub enum WriteAnswer {
-    // The length written.
-    Written { len: usize },
+// Why the values of a body's mark are not written.
+#[derive(Clone, Copy, Debug, PartialEq, Eq)]
+pub enum ValuesRefusal {
+    Body(ReadRefusal),
+    ShortOutput,
+}
+
+impl From<ReadRefusal> for ValuesRefusal {
+    ghost use Rattle.body.specs.declared.ValuesRefusal.TheVariants.{Body};
+
+    ghost from_gives = { λ why e. e ≡ Body why };
+
+    fn from(why: ReadRefusal) -> ValuesRefusal {
+        ValuesRefusal::Body(why)
+    }
+}
+
+impl From<ValuesRefusal> for u32 {
+    ghost from_gives = { λ why n. n ≡ values_number why };
+
+    fn from(why: ValuesRefusal) -> u32 {
+        match why {
+            ValuesRefusal::Body(why) => why.into(),
+            ValuesRefusal::ShortOutput => 4,
+        }
+    }
+}
+
+// Why the body of a mark is not written.
+#[derive(Clone, Copy, Debug, PartialEq, Eq)]
+pub enum WriteRefusal {
     BadValue,
     ShortOutput,
 }
 
-impl WriteAnswer {
-    // 0, or the refusal's number.
-    pub fn number(self) -> u32
-        ensures { result ≡ number_of (write_says self) }
-    {
-        match self {
-            WriteAnswer::Written { len: _ } => 0,
-            WriteAnswer::BadValue => 31,
-            WriteAnswer::ShortOutput => 4,
+impl From<WriteRefusal> for u32 {
+    ghost from_gives = { λ why n. n ≡ write_number why };
+
+    fn from(why: WriteRefusal) -> u32 {
+        match why {
+            WriteRefusal::BadValue => 31,
+            WriteRefusal::ShortOutput => 4,
         }
     }
 }
 
-// How many numbers a field holds: 2^28, in each type.
-pub const FIELDS: u32 = 268435456;
-
-pub const FIELDS_U64: u64 = 268435456;
-
-const FIELDS_I32: i32 = 268435456;
+// How many numbers a field holds.
+pub const FIELDS: u32 = 1 << 28;
 
 // ---- the offset in two's complement
 
@@ -82,31 +93,19 @@ pub fn minutes_in(field: u32) -> i32
     requires { field < fields }
     ensures { result ≡ minutes field }
 {
-    if field < FIELDS / 2 {
-        field as i32
-    } else {
-        field as i32 - FIELDS_I32
-    }
+    (field << 4).cast_signed() >> 4
 }
 
-// The residue of z modulo n: where n is 2^w, its w bits in two's complement.
-pub fn residue_of(z: i32, n: u64) -> u64
-    requires { mag z < n }
-    ensures { result ≡ residue n z }
+// The field that says some minutes.
+pub fn field_of(minutes: i32) -> u32
+    ensures { result ≡ residue fields minutes }
 {
-    if z >= 0 {
-        z as u64
-    } else {
-        n - 1 - ((-1 - z) as u64)
-    }
+    minutes.cast_unsigned() % FIELDS
 }
 
 // Whether an offset is in its range.
-pub fn offset_in_range(z: i32) -> bool
-    ensures { result ≡ offset_in_range z }
+pub fn offset_in_range(minutes: i32) -> bool
+    ensures { result ≡ offset_in_range minutes }
 {
-    if z < -720 {
-        return false;
-    }
-    z <= 840
+    (-720..=840).contains(&minutes)
 }

@@ -7,8 +7,9 @@ ghost use Rattle.baksheesh.specs.Baksheesh.{encrypt};
 ghost use Rattle.words.specs.Words.{unpacked};
 ghost use Rattle.modes.specs.Ctr.{ctr};
 ghost use Rattle.modes.specs.Cmac.{subkey₁, subkey₂, last_block, chain, cmac};
-ghost use Rattle.links.specs.Record.{longest, counter_block};
+ghost use Rattle.links.specs.Record.{counter_block};
 
+use links::{Nonce, Text};
 use packed::encrypt_words;
 use packing::{pack, unpack};
 use words::steps::add;
@@ -16,22 +17,22 @@ use words::steps::add;
 // ---- CTR
 
 // The output block of counter block i.
-fn key_block(key: [u32; 4], number: u32, sequence: u64, i: u32) -> [u8; 16]
-    ensures { result ≡ encrypt (unpacked key) (counter_block number sequence i) }
+fn key_block(key: [u32; 4], nonce: Nonce, i: u32) -> [u8; 16]
+    ensures { result ≡ encrypt (unpacked key) (counter_block nonce.number nonce.sequence i) }
 {
-    unpack(encrypt_words(key, pack(links::counter_block(number, sequence, i))))
+    unpack(encrypt_words(key, pack(nonce.counter_block(i))))
 }
 
 // Writes the ciphertext of a message, or the message of a ciphertext, from `at`.
-pub fn crypt(ke: [u8; 16], number: u32, sequence: u64, text: &[u8], out: &mut [u8], at: usize)
-    requires { (at + length text.now ≤ length out.old) × (length text.now ≤ longest) }
-    ensures { out.new ≡ put at (ctr (encrypt ke) (counter_block number sequence) text.now) out.old }
+pub fn crypt(ke: [u8; 16], nonce: Nonce, text: &Text, out: &mut [u8], at: usize)
+    requires { at + length text.now ≤ length out.old }
+    ensures { out.new ≡ put at (ctr (encrypt ke) (counter_block nonce.number nonce.sequence) text.now) out.old }
 {
     let key = pack(ke);
-    let count = (text.len() + 15) / 16;
-    for j in 0..count {
-        let block = key_block(key, number, sequence, j as u32);
-        modes::put_xor(text, j, block, out, at + 16 * j);
+    let bytes = text.bytes;
+    for j in 0..bytes.len().div_ceil(16) {
+        let block = key_block(key, nonce, j as u32);
+        modes::put_xor(bytes, j, block, out, at + 16 * j);
     }
 }
 
@@ -58,7 +59,7 @@ fn last_block(key: [u32; 4], text: &[u8], j: usize) -> [u32; 4]
     if text.len() - at < 16 {
         return add(pack(second_subkey(key)), pack(modes::padded_at(text, at)));
     }
-    add(pack(first_subkey(key)), pack(blocks::block_at(text, at)))
+    add(pack(first_subkey(key)), pack(blocks::bytes_at(text, at)))
 }
 
 // The chain from `first` over the text's first n blocks.
@@ -68,23 +69,22 @@ fn chained(key: [u32; 4], first: [u32; 4], text: &[u8], n: usize) -> [u32; 4]
 {
     let mut chain = first;
     for j in 0..n {
-        let next = encrypt_words(key, add(chain, pack(blocks::block_at(text, 16 * j))));
-        chain = next;
+        chain = encrypt_words(key, add(chain, pack(blocks::bytes_at(text, 16 * j))));
     }
     chain
 }
 
 // The code of a text behind counter block 0.
-pub fn mac(km: [u8; 16], number: u32, sequence: u64, text: &[u8]) -> [u8; 16]
-    requires { length text.now ≤ longest }
-    ensures { result ≡ cmac (encrypt km) (counter_block number sequence 0 ++ text.now) }
+pub fn mac(km: [u8; 16], nonce: Nonce, text: &Text) -> [u8; 16]
+    ensures { result ≡ cmac (encrypt km) (counter_block nonce.number nonce.sequence 0 ++ text.now) }
 {
     let key = pack(km);
-    let front = pack(links::counter_block(number, sequence, 0));
-    if text.len() == 0 {
+    let front = pack(nonce.counter_block(0));
+    let bytes = text.bytes;
+    if bytes.is_empty() {
         return unpack(encrypt_words(key, add(pack(first_subkey(key)), front)));
     }
-    let k = (text.len() - 1) / 16;
-    let chain = chained(key, encrypt_words(key, front), text, k);
-    unpack(encrypt_words(key, add(chain, last_block(key, text, k))))
+    let k = (bytes.len() - 1) / 16;
+    let chain = chained(key, encrypt_words(key, front), bytes, k);
+    unpack(encrypt_words(key, add(chain, last_block(key, bytes, k))))
 }

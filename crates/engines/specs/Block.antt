@@ -1,12 +1,14 @@
 -- What a block call answers, and its output at its end. Assumes nothing.
-use Rattle.std.specs.Prelude.{not, ◌&&◌, List, [], ◌∷◌, ℕ, eqb, length}
-use Rattle.answers.specs.Answer.{Answer, done, refused, ◌when◌, first, output}
-use Rattle.engines.specs.declared.BlockAnswer.{BlockAnswer}
-use Rattle.engines.specs.declared.BlockAnswer.TheVariants.{Done, BadLength}
+use Rattle.std.specs.Prelude.{not, ◌&&◌, List, [], ◌∷◌, ℕ, eqb, length, Result}
+use Rattle.answers.specs.Answer.{Answer, done, said, ◌when◌, first, output}
+use Rattle.engines.specs.declared.BlockRefusal.{BlockRefusal}
+use Rattle.engines.specs.declared.BlockRefusal.TheVariants.{BadLength}
 
-abbrev pub block_says : BlockAnswer → Answer
-block_says Done = done []
-block_says BadLength = refused 5
+abbrev pub block_number : BlockRefusal → ℕ
+block_number BadLength = 5
+
+abbrev pub block_says : Result (Unit {0}) BlockRefusal → Answer
+block_says = said (λ _. []) block_number
 
 -- refused unless key, input and output are sixteen bytes each
 unfoldable pub block_answer : List ℕ → List ℕ → List ℕ → Answer

@@ -2,8 +2,7 @@
 #![tactic(auto)]
 
 ghost use Rattle.std.specs.Prelude.{◌≡◌, ◌&&◌, eqb};
-ghost use Rattle.answers.specs.Answer.{number_of};
-ghost use Rattle.engines.specs.Block.{block_says, block_answer, block_output};
+ghost use Rattle.engines.specs.Block.{block_number, block_says, block_answer, block_output};
 ghost use Rattle.engines.specs.Cipher.{cipher_of};
 
 // Each cipher by each engine.
@@ -15,20 +14,17 @@ pub enum Cipher {
     DecryptPacked,
 }
 
-#[derive(Clone, Copy)]
-pub enum BlockAnswer {
-    Done,
+#[derive(Clone, Copy, Debug, PartialEq, Eq)]
+pub enum BlockRefusal {
     BadLength,
 }
 
-impl BlockAnswer {
-    // 0, or the refusal's number.
-    pub fn number(self) -> u32
-        ensures { result ≡ number_of (block_says self) }
-    {
-        match self {
-            BlockAnswer::Done => 0,
-            BlockAnswer::BadLength => 5,
+impl From<BlockRefusal> for u32 {
+    ghost from_gives = { λ why n. n ≡ block_number why };
+
+    fn from(why: BlockRefusal) -> u32 {
+        match why {
+            BlockRefusal::BadLength => 5,
         }
     }
 }
@@ -37,13 +33,7 @@ impl BlockAnswer {
 fn blocks_long(key: usize, input: usize, output: usize) -> bool
     ensures { result ≡ (eqb key 16 && eqb input 16 && eqb output 16) }
 {
-    if key != 16 {
-        return false;
-    }
-    if input != 16 {
-        return false;
-    }
-    output == 16
+    key == 16 && input == 16 && output == 16
 }
 
 // What a cipher makes of a block under a key.
@@ -58,16 +48,15 @@ fn ciphered(which: Cipher, key: [u8; 16], block: [u8; 16]) -> [u8; 16]
     }
 }
 
-pub fn call(which: Cipher, key: &[u8], input: &[u8], output: &mut [u8]) -> BlockAnswer
+pub fn call(which: Cipher, key: &[u8], input: &[u8], output: &mut [u8]) -> Result<(), BlockRefusal>
     ensures result_value { block_says result ≡ block_answer key.now input.now output.old }
     ensures output_after { output.new ≡ block_output (cipher_of which) key.now input.now output.old }
 {
     if !blocks_long(key.len(), input.len(), output.len()) {
-        return BlockAnswer::BadLength;
+        return Err(BlockRefusal::BadLength);
     }
-    let k = blocks::block_at(key, 0);
-    let x = blocks::block_at(input, 0);
-    let y = ciphered(which, k, x);
-    blocks::put_bytes(&y, output, 0);
-    BlockAnswer::Done
+    let k = blocks::bytes_at(key, 0);
+    let x = blocks::bytes_at(input, 0);
+    output.copy_from_slice(&ciphered(which, k, x));
+    Ok(())
 }

@@ -2,17 +2,22 @@
 // argument breaks is refused here.
 #![tactic(auto)]
 
-use body::{Mark, ReadAnswer, WriteAnswer};
-use engines::{BlockAnswer, Cipher};
-use links::{Sender, SenderKeying};
-use plain_sealing::PlainAnswer;
-use receiver::{Opening, Receiver, ReceiverKeying};
-use reporting::ReportAnswer;
+use body::{Mark, ReadRefusal, ValuesRefusal, WriteRefusal};
+use engines::{BlockRefusal, Cipher};
+use links::{Answered, KeyRefusal, Sender};
+use plain_sealing::PlainRefusal;
+use receiver::{OpenRefusal, Receiver};
+use reporting::ReportRefusal;
 use sealing::Sealing;
 
 // ---- block calls
 
-pub fn call(which: Cipher, key: &[u8], input: &[u8], output: &mut [u8]) -> BlockAnswer {
+pub fn call(
+    which: Cipher,
+    key: &[u8],
+    input: &[u8],
+    output: &mut [u8],
+) -> Result<(), BlockRefusal> {
     engines::call(which, key, input, output)
 }
 
@@ -22,7 +27,12 @@ pub fn fresh_sender() -> Sender {
     links::Sender::fresh()
 }
 
-pub fn key_sender(link: Sender, number: u32, wide: u32, keys: &[u8]) -> SenderKeying {
+pub fn key_sender(
+    link: Sender,
+    number: u32,
+    wide: u32,
+    keys: &[u8],
+) -> Answered<Sender, (), KeyRefusal> {
     links::Sender::key(link, number, wide, keys)
 }
 
@@ -30,7 +40,12 @@ pub fn fresh_receiver() -> Receiver {
     receiver::Receiver::fresh()
 }
 
-pub fn key_receiver(link: Receiver, number: u32, wide: u32, keys: &[u8]) -> ReceiverKeying {
+pub fn key_receiver(
+    link: Receiver,
+    number: u32,
+    wide: u32,
+    keys: &[u8],
+) -> Answered<Receiver, (), KeyRefusal> {
     receiver::Receiver::key(link, number, wide, keys)
 }
 
@@ -43,7 +58,7 @@ pub fn seal_plain(
     sequence: u64,
     message: &[u8],
     out: &mut [u8],
-) -> PlainAnswer {
+) -> Result<usize, PlainRefusal> {
     plain_sealing::seal(keys, number, wide, sequence, message, out)
 }
 
@@ -64,29 +79,39 @@ pub fn report(
     round: u32,
     lane: u32,
     out: &mut [u8],
-) -> ReportAnswer {
+) -> Result<(), ReportRefusal> {
     reporting::report(link, message, tape, call, round, lane, out)
 }
 
-pub fn open(link: Receiver, sealed: &[u8], out: &mut [u8]) -> Opening {
+pub fn open(
+    link: Receiver,
+    sealed: &[u8],
+    out: &mut [u8],
+) -> Answered<Receiver, usize, OpenRefusal> {
     receiver::Receiver::open(link, sealed, out)
 }
 
 // ---- bodies
 
-pub fn read(body: &[u8]) -> ReadAnswer {
+pub fn read(body: &[u8]) -> Result<Mark, ReadRefusal> {
     reading::read(body)
 }
 
-pub fn write(mark: Mark, out: &mut [u8]) -> WriteAnswer {
+pub fn write(mark: Mark, out: &mut [u8]) -> Result<usize, WriteRefusal> {
     writing::write(mark, out)
 }
 
-pub fn read_values(body: &[u8], out: &mut [u8]) -> u32 {
+pub fn read_values(body: &[u8], out: &mut [u8]) -> Result<(), ValuesRefusal> {
     reading::read_values(body, out)
 }
 
-pub fn write_values(seconds: u64, fraction: u32, given: u32, z: i32, out: &mut [u8]) -> u32 {
+pub fn write_values(
+    seconds: u64,
+    fraction: u32,
+    given: u32,
+    z: i32,
+    out: &mut [u8],
+) -> Result<usize, WriteRefusal> {
     writing::write_values(seconds, fraction, given, z, out)
 }
 

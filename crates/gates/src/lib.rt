@@ -8,10 +8,7 @@ ghost use Rattle.words.specs.Words.{unpacked};
 pub fn sub_cells(s: [u32; 4]) -> [u32; 4]
     ensures { unpacked result ≡ sub_cells (unpacked s) }
 {
-    let a = s[0];
-    let b = s[1];
-    let c = s[2];
-    let d = s[3];
+    let [a, b, c, d] = s;
     let u = b & c;
     let v = (a & c) ^ u ^ b;
     let w = a ^ u ^ d ^ 0xffff_ffff;
@@ -21,10 +18,7 @@ pub fn sub_cells(s: [u32; 4]) -> [u32; 4]
 pub fn inv_sub_cells(s: [u32; 4]) -> [u32; 4]
     ensures { unpacked result ≡ inv_sub_cells (unpacked s) }
 {
-    let a = s[0];
-    let b = s[1];
-    let c = s[2];
-    let d = s[3];
+    let [a, b, c, d] = s;
     [
         ((a ^ d) & (b ^ c)) ^ c ^ d ^ 0xffff_ffff,
         (a & c) ^ (d & (a ^ c)) ^ a ^ b ^ d,

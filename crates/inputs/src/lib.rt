@@ -4,15 +4,18 @@
 ghost use Rattle.std.specs.Prelude.{◌≡◌, ◌+◌, ◌*◌, ◌≤◌, ◌<◌, length};
 ghost use Rattle.blocks.specs.Bytes.{part, block_count, piece};
 ghost use Rattle.modes.specs.Cmac.{doubled};
-ghost use Rattle.links.specs.Record.{longest};
-ghost use Rattle.masking.specs.Shares.{each, shares_in};
+ghost use Rattle.masking.specs.Shares.{each};
 ghost use Rattle.shares.specs.Packed.{shares_of};
 ghost use Rattle.calls.specs.Job.{completed, last_key};
 ghost use Rattle.calls.specs.Sealed.{cut, text_block};
-ghost use Rattle.inputs.specs.Inputs.{outs_size, block_shares};
+ghost use Rattle.inputs.specs.Inputs.{out_at, block_shares};
 
+use links::{Nonce, Text};
 use packing::pack;
 use shares::{Triple, add_shares, only, pack_shares, unpack_shares};
+
+// The output shares of CTR's calls, three blocks a call: room for those of the longest message.
+pub type Outs = [[u8; 48]; 16];
 
 // ---- the subkey
 
@@ -21,9 +24,9 @@ fn double_shares(s: Triple) -> Triple
 {
     let b = unpack_shares(s);
     pack_shares(blocks::three_blocks(
-        modes::double(blocks::block_at(&b, 0)),
-        modes::double(blocks::block_at(&b, 16)),
-        modes::double(blocks::block_at(&b, 32)),
+        modes::double(blocks::bytes_at(&b, 0)),
+        modes::double(blocks::bytes_at(&b, 16)),
+        modes::double(blocks::bytes_at(&b, 32)),
     ))
 }
 
@@ -33,59 +36,60 @@ pub fn last_key(s: Triple, len: usize) -> Triple
 {
     let first = double_shares(s);
     if len % 16 == 0 {
-        return first;
+        first
+    } else {
+        double_shares(first)
     }
-    double_shares(first)
 }
 
 // ---- the blocks
 
-// The first n bytes of the block from `at`, zeros behind them.
-fn cut_block(s: &[u8], at: usize, n: usize) -> [u8; 16]
-    requires { (at + 16 ≤ length s.now) × (n ≤ 16) }
-    ensures { result ≡ cut n (part at 16 s.now) }
+// The first n bytes of the share from `at`, zeros behind them.
+fn cut_share(shares: &[u8; 48], at: usize, n: usize) -> [u8; 16]
+    requires { (at + 16 ≤ 48) × (n ≤ 16) }
+    ensures { result ≡ cut n (part at 16 shares.now) }
 {
-    let mut block = [0u8; 16];
-    blocks::put_bytes(&s[at..at + n], &mut block, 0);
-    block
+    let mut share = [0u8; 16];
+    share[..n].copy_from_slice(&shares[at..at + n]);
+    share
 }
 
 // Block j of the message, padded where it is not complete.
-fn completed_at(message: &[u8], j: usize) -> [u8; 16]
+fn completed_at(message: &Text, j: usize) -> [u8; 16]
     requires { j < block_count (length message.now) }
     ensures { result ≡ completed (piece j message.now) }
 {
+    let text = message.bytes;
     let at = 16 * j;
-    if message.len() - at < 16 {
-        return modes::padded_at(message, at);
+    if text.len() - at < 16 {
+        modes::padded_at(text, at)
+    } else {
+        blocks::bytes_at(text, at)
     }
-    blocks::block_at(message, at)
 }
 
 // Block j of the ciphertext: its call's output shares cut to the block's bytes, with the message block in share 0.
-fn text_block(message: &[u8], outs: &[u8], j: usize) -> Triple
-    requires j_bound { j < block_count (length message.now) }
-    requires message_len_bound { (length message.now ≤ longest) × (length outs.now ≡ outs_size) }
-    ensures { shares_of result ≡ text_block message.now j (shares_in (part (48 * j) 48 outs.now)) }
+fn text_block(message: &Text, outs: &Outs, j: usize) -> Triple
+    requires { j < block_count (length message.now) }
+    ensures { shares_of result ≡ text_block message.now j (out_at j outs.now) }
 {
-    let n = modes::width(message.len(), 16 * j);
-    let at = 48 * j;
+    let n = modes::width(message.bytes.len(), 16 * j);
+    let shares = &outs[j];
     let outputs = pack_shares(blocks::three_blocks(
-        cut_block(outs, at, n),
-        cut_block(outs, at + 16, n),
-        cut_block(outs, at + 32, n),
+        cut_share(shares, 0, n),
+        cut_share(shares, 16, n),
+        cut_share(shares, 32, n),
     ));
     add_shares(outputs, only(pack(completed_at(message, j))))
 }
 
 // Block j of what is authenticated: counter block 0, then the ciphertext.
-pub fn mac_block(number: u32, sequence: u64, message: &[u8], outs: &[u8], j: usize) -> Triple
-    requires j_bound { j ≤ block_count (length message.now) }
-    requires message_len_bound { (length message.now ≤ longest) × (length outs.now ≡ outs_size) }
-    ensures { shares_of result ≡ block_shares number sequence message.now outs.now j }
+pub fn mac_block(nonce: Nonce, message: &Text, outs: &Outs, j: usize) -> Triple
+    requires { j ≤ block_count (length message.now) }
+    ensures { shares_of result ≡ block_shares nonce.number nonce.sequence message.now outs.now j }
 {
     if j == 0 {
-        return only(pack(links::counter_block(number, sequence, 0)));
+        return only(pack(nonce.counter_block(0)));
     }
     text_block(message, outs, j - 1)
 }

@@ -21,14 +21,11 @@ fn inv_perm_word(x: u32) -> u32
 pub fn inv_perm_bits(s: [u32; 4]) -> [u32; 4]
     ensures { unpacked result ≡ inv_perm_bits (unpacked s) }
 {
-    let a = s[0];
-    let b = s[1];
-    let c = s[2];
-    let d = s[3];
+    let [a, b, c, d] = s;
     [
-        inv_perm_word((a >> 8) ^ (a << 24)),
-        inv_perm_word((b >> 16) ^ (b << 16)),
-        inv_perm_word((c >> 24) ^ (c << 8)),
+        inv_perm_word(a.rotate_right(8)),
+        inv_perm_word(b.rotate_right(16)),
+        inv_perm_word(c.rotate_right(24)),
         inv_perm_word(d),
     ]
 }
@@ -37,22 +34,19 @@ pub fn inv_perm_bits(s: [u32; 4]) -> [u32; 4]
 pub fn rotate_back(k: [u32; 4]) -> [u32; 4]
     ensures { unpacked result ≡ rotated 127 (unpacked k) }
 {
-    let d = k[3];
-    [(d << 1) ^ (d >> 31), k[0], k[1], k[2]]
+    let [a, b, c, d] = k;
+    [d.rotate_left(1), a, b, c]
 }
 
 // The key, rotated right by all rounds.
 pub fn rotate_all(k: [u32; 4]) -> [u32; 4]
     ensures { unpacked result ≡ rotated rounds (unpacked k) }
 {
-    let a = k[0];
-    let b = k[1];
-    let c = k[2];
-    let d = k[3];
+    let [a, b, c, d] = k;
     [
-        (d >> 8) ^ (d << 24),
-        (a >> 9) ^ (a << 23),
-        (b >> 9) ^ (b << 23),
-        (c >> 9) ^ (c << 23),
+        d.rotate_right(8),
+        a.rotate_right(9),
+        b.rotate_right(9),
+        c.rotate_right(9),
     ]
 }

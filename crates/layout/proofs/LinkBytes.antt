@@ -1,6 +1,6 @@
 -- The bytes of a link say that link; bytes of its size whose flag is 0 or 1 are those of the link that they say. For any sizes of keys and
 -- tail. A width in the last byte. Assumes nothing.
-use Rattle.prelude.proofs.{◌≡◌, refl, sym, ap, ◌∙◌, Bool, true, false, List, [], ◌∷◌, ◌++◌, append_assoc, ℕ, zero, suc, ◌+◌, ◌^◌, ◌≤◌}
+use Rattle.prelude.proofs.{◌≡◌, refl, sym, ap, ◌∙◌, Bool, true, false, List, [], ◌∷◌, ◌++◌, append_assoc, ℕ, zero, suc, ◌+◌, ◌-◌, ◌^◌, ◌≤◌}
 use Rattle.prelude.proofs.{◌<◌, arith, eqb, length, get_or, take, drop, length-append, take-append-drop, take_at, drop_at, drop-drop}
 use Rattle.prelude.proofs.{ap₂, ◌&&◌, leb, drop-length, drop-cons, le-leb, eqb-true, eq-eqb}
 use Rattle.blocks.specs.Bytes.{Bytes, big_endian, put}
@@ -17,11 +17,13 @@ use Rattle.layout.specs.Layout.{tail_in, width_byte, sound}
 behind : (xs ys o out : List ℕ) (n : ℕ) → out ≡ put 0 xs o → n ≡ length xs → n ≤ length o → put n ys out ≡ put 0 (xs ++ ys) o
 behind xs ys o out n e d h = ap (put n ys) e ∙ put-put 0 xs ys o n (omega arith) (omega arith)
 
-pub written : (k : Bool) (f x l : ℕ) (e m t o : List ℕ) → f ≡ flag k → length o ≡ link_size (length e + length m) (length t)
-    → put (keys_at + length e + length m) t (put (keys_at + length e) m (put keys_at e
-    (put last_at (big_endian last_size l) (put number_at (big_endian number_size x) (put 0 (f ∷ []) o)))))
-    ≡ link_bytes k x l e m t
-written k f x l e m t o h s =
+-- with keys of n bytes, a word of t and the width's byte, which stands at the place p
+pub written : (k : Bool) (n t p f x l w : ℕ) (e m word o : List ℕ) → f ≡ flag k → length e ≡ n → length m ≡ n → length word ≡ t
+    → length o ≡ link_size (n + n) (t + 1) → p ≡ length o - 1
+    → put p (w ∷ []) (put (p - t) word (put (keys_at + n) m (put keys_at e
+    (put last_at (big_endian last_size l) (put number_at (big_endian number_size x) (put 0 (f ∷ []) o))))))
+    ≡ link_bytes k x l e m (word ++ (w ∷ []))
+written k n t p f x l w e m word o h he hm hw s hp =
     let X : List ℕ = big_endian number_size x in
     let L : List ℕ = big_endian last_size l in
     let lx : length X ≡ number_size = big_endian-length number_size x in
@@ -29,9 +31,11 @@ written k f x l e m t o h s =
     let p₁ = behind (f ∷ []) X o _ number_at refl (omega arith) (omega arith) in
     let p₂ = behind (f ∷ X) L o _ last_at p₁ (omega arith) (omega arith) in
     let p₃ = behind (f ∷ (X ++ L)) e o _ keys_at p₂ (simp length-append (omega arith)) (omega arith) in
-    let p₄ = behind (f ∷ ((X ++ L) ++ e)) m o _ (keys_at + length e) p₃ (simp length-append (omega arith)) (omega arith) in
-    let p₅ = behind (f ∷ (((X ++ L) ++ e) ++ m)) t o _ (keys_at + length e + length m) p₄ (simp length-append (omega arith)) (omega arith) in
-    p₅ ∙ put_whole _ o (simp length-append (omega arith)) ∙ simp append_assoc (ap (λ (z : ℕ). z ∷ (X ++ (L ++ (e ++ (m ++ t))))) h)
+    let p₄ = behind (f ∷ ((X ++ L) ++ e)) m o _ (keys_at + n) p₃ (simp length-append (omega arith)) (omega arith) in
+    let p₅ = behind (f ∷ (((X ++ L) ++ e) ++ m)) word o _ (p - t) p₄ (simp length-append (omega arith)) (omega arith) in
+    let p₆ = behind (f ∷ ((((X ++ L) ++ e) ++ m) ++ word)) (w ∷ []) o _ p p₅ (simp length-append (omega arith)) (omega arith) in
+    p₆ ∙ put_whole _ o (simp length-append (omega arith))
+    ∙ simp append_assoc (ap (λ (z : ℕ). z ∷ (X ++ (L ++ (e ++ (m ++ (word ++ (w ∷ []))))))) h)
 
 -- ---- what bytes say
 

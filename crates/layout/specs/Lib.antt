@@ -1,3 +1,4 @@
 pub mod Layout
+pub mod Kind
 pub mod Keying
 pub mod Keyed

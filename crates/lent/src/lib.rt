@@ -6,12 +6,12 @@ ghost use Rattle.calls.specs.Entry.{seal_answer, seal_link, seal_shares, seal_ou
 ghost use Rattle.sealing.specs.Says.{seal_says};
 
 use links::Sender;
-use sealing::{SealAnswer, Sealing};
+use sealing::{SealRefusal, Sealed, Sealing};
 
 // What a sealing returns besides the link. The tag's three shares stand one behind the other; zeros where it is refused.
 #[derive(Clone, Copy)]
 pub struct Outcome {
-    pub answer: SealAnswer,
+    pub answer: Result<Sealed, SealRefusal>,
     pub shares: [u8; 48],
 }
 
@@ -23,13 +23,13 @@ pub fn seal_next(link: &mut Sender, message: &[u8], tape: &[u8], out: &mut [u8])
         × (link.new ≡ seal_link link.old message.now tape.now (length out.old))
         × (out.new ≡ seal_output link.old message.now tape.now out.old) }
 {
-    let done = sealing::seal(*link, message, tape, out);
-    *link = done.link;
-    let shares = done.shares;
-    Outcome {
-        answer: done.answer,
+    let Sealing {
+        answer,
+        link: next,
         shares,
-    }
+    } = sealing::seal(*link, message, tape, out);
+    *link = next;
+    Outcome { answer, shares }
 }
 
 // The same for a link by value: it is lent here, and handed back.
@@ -40,12 +40,11 @@ pub fn seal_through(link: Sender, message: &[u8], tape: &[u8], out: &mut [u8]) -
         × (result.link ≡ seal_link link message.now tape.now (length out.old))
         × (out.new ≡ seal_output link message.now tape.now out.old) }
 {
-    let mut kept = link;
-    let done = seal_next(&mut kept, message, tape, out);
-    let shares = done.shares;
+    let mut next = link;
+    let Outcome { answer, shares } = seal_next(&mut next, message, tape, out);
     Sealing {
-        answer: done.answer,
-        link: kept,
+        answer,
+        link: next,
         shares,
     }
 }

@@ -1,6 +1,6 @@
 -- Either width: its form is one that a record can have, its numbers have a place in a counter block; when a link counts as keyed.
 -- Assumes nothing.
-use Rattle.prelude.proofs.{◌≡◌, refl, ◌↔◌, Bool, true, false, false≢true, ℕ, zero, suc, ◌^◌, ◌≤◌, ◌<◌, arith, le-leb, leb-true}
+use Rattle.prelude.proofs.{◌≡◌, refl, sym, subst, ◌↔◌, Bool, true, false, false≢true, ℕ, zero, suc, ◌^◌, ◌≤◌, ◌<◌, arith, le-leb, leb-true}
 use Rattle.links.specs.Record.{Proper, sequence_most, greatest, usable, told, form_of}
 use Rattle.links.specs.declared.Form.{Form}
 use Rattle.links.specs.declared.Width.{Width}
@@ -9,6 +9,10 @@ use Rattle.links.specs.declared.Width.TheVariants.{Narrow, Wide}
 pub proper : (w : Width) → Proper (form_of w)
 proper Narrow = record { sequence = omega arith; tag = omega arith }
 proper Wide = record { sequence = omega arith; tag = omega arith }
+
+-- the form that a width was asked for
+pub proper_of : {f : Form} (w : Width) → f ≡ form_of w → Proper f
+proper_of w e = subst Proper (sym e) (proper w)
 
 pub told-wide : (n : ℕ) → (n ≡ 0 → ⊥) → Wide ≡ told n
 told-wide zero h = absurd (h refl)

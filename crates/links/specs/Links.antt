@@ -1,22 +1,25 @@
 -- What keying answers, and the sending link as keying leaves it. Assumes nothing.
-use Rattle.std.specs.Prelude.{true, false, not, List, [], ◌∷◌, ℕ, eqb, length, replicate}
+use Rattle.std.specs.Prelude.{true, false, not, List, [], ◌∷◌, ℕ, eqb, length, replicate, Result}
 use Rattle.blocks.specs.Bytes.{part}
-use Rattle.answers.specs.Answer.{Answer, done, refused, Cause, ◌when◌, first}
+use Rattle.answers.specs.Answer.{Answer, done, Cause, ◌when◌, first, said}
 use Rattle.links.specs.Record.{form_of}
 use Rattle.links.specs.declared.Form.{Form}
 use Rattle.links.specs.declared.Width.{Width}
 use Rattle.links.specs.declared.Width.TheVariants.{Narrow}
 use Rattle.links.specs.declared.Sender.{Sender}
-use Rattle.links.specs.declared.KeyAnswer.{KeyAnswer}
-use Rattle.links.specs.declared.KeyAnswer.TheVariants.{Keyed, BadKeys}
+use Rattle.links.specs.declared.KeyRefusal.{KeyRefusal}
+use Rattle.links.specs.declared.KeyRefusal.TheVariants.{BadKeys}
 
 -- the bytes of key material: three shares of KE, then of KM
 abbrev pub sender_keys : ℕ
 sender_keys = 96
 
-abbrev pub key_says : KeyAnswer → Answer
-key_says Keyed = done []
-key_says BadKeys = refused 1
+-- the number of a refusal; what keying says, whatever it returns
+abbrev pub key_number : KeyRefusal → ℕ
+key_number BadKeys = 1
+
+abbrev pub key_says : {A : Type 0} → Result A KeyRefusal → Answer
+key_says = said (λ _. []) key_number
 
 -- keying with the given bytes a link that takes n of them
 abbrev pub key_causes : ℕ → List ℕ → List Cause

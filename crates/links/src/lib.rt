@@ -1,13 +1,17 @@
-// The width of a link, the form of its records; the sending link: what a sender holds between two calls, and its keying; counter
-// blocks, heads.
+// The width of a link, the form of its records, and what names a sealing; the sending link: what a sender holds between two calls,
+// and its keying.
 #![tactic(auto)]
 
-ghost use Rattle.std.specs.Prelude.{◌≡◌, ◌≤◌, length};
-ghost use Rattle.blocks.specs.Bytes.{put};
-ghost use Rattle.answers.specs.Answer.{number_of, if_done};
-ghost use Rattle.links.specs.Links.{sender_keys, key_says, key_answer, fresh_sender, sender_of};
+ghost use Rattle.std.specs.Prelude.{◌≡◌, ◌+◌, ◌*◌, ◌^◌, ◌<◌, ◌≤◌, length, IfOk};
+ghost use Rattle.blocks.specs.Bytes.{part, put};
+ghost use Rattle.links.specs.Links.{key_number, sender_keys, key_says, key_answer, fresh_sender, sender_of};
 ghost use Rattle.links.specs.Record.{Proper, head_size, added, greatest, told, form_of, usable};
 ghost use Rattle.links.specs.Record.{counter_block, head_of};
+ghost use Rattle.answers.specs.Answer.{if_done};
+
+mod text;
+
+pub use text::Text;
 
 // ---- sizes, in bytes
 
@@ -59,18 +63,20 @@ pub enum Width {
     Wide,
 }
 
-impl Width {
-    // Narrow for 0, wide for any other number.
-    pub fn told(wide: u32) -> Width
-        ensures { result ≡ told wide }
-    {
+// Narrow for 0, wide for any other number.
+impl From<u32> for Width {
+    ghost from_gives = { λ wide width. width ≡ told wide };
+
+    fn from(wide: u32) -> Width {
         if wide == 0 {
             Width::Narrow
         } else {
             Width::Wide
         }
     }
+}
 
+impl Width {
     // The form of its records.
     pub fn form(self) -> Form
         ensures { result ≡ form_of self }
@@ -100,6 +106,44 @@ pub fn usable(keyed: bool, width: Width, number: u64) -> bool
     keyed && number <= width.greatest()
 }
 
+// ---- keying
+
+#[derive(Clone, Copy, Debug, PartialEq, Eq)]
+pub enum KeyRefusal {
+    BadKeys,
+}
+
+impl From<KeyRefusal> for u32 {
+    ghost from_gives = { λ why n. n ≡ key_number why };
+
+    fn from(why: KeyRefusal) -> u32 {
+        match why {
+            KeyRefusal::BadKeys => 1,
+        }
+    }
+}
+
+// The keys KE and KM of the given bytes, N for each.
+pub fn halves<const N: usize>(keys: &[u8]) -> Result<([u8; N], [u8; N]), KeyRefusal>
+    requires { 2 * N < 2 ^ 64 }
+    ensures answer_value { key_says result ≡ key_answer (2 * N) keys.now }
+    ensures keys_value { IfOk result (λ k. (k.0 ≡ part 0 N keys.now) × (k.1 ≡ part N N keys.now)) }
+{
+    if keys.len() != 2 * N {
+        return Err(KeyRefusal::BadKeys);
+    }
+    let ke = blocks::bytes_at(keys, 0);
+    let km = blocks::bytes_at(keys, N);
+    Ok((ke, km))
+}
+
+// What an entry returns that takes a link by value: its answer, and the link handed back.
+#[derive(Clone, Copy)]
+pub struct Answered<L, T, E> {
+    pub answer: Result<T, E>,
+    pub link: L,
+}
+
 // ---- the sending link
 
 // The link's number, the last sequence number used, its width, and the keys KE and KM as three shares each.
@@ -111,30 +155,6 @@ pub struct Sender {
     pub width: Width,
     pub ke: [u8; 48],
     pub km: [u8; 48],
-}
-
-#[derive(Clone, Copy)]
-pub enum KeyAnswer {
-    Keyed,
-    BadKeys,
-}
-
-impl KeyAnswer {
-    // 0, or the refusal's number.
-    pub fn number(self) -> u32
-        ensures { result ≡ number_of (key_says self) }
-    {
-        match self {
-            KeyAnswer::Keyed => 0,
-            KeyAnswer::BadKeys => 1,
-        }
-    }
-}
-
-#[derive(Clone, Copy)]
-pub struct SenderKeying {
-    pub answer: KeyAnswer,
-    pub link: Sender,
 }
 
 impl Sender {
@@ -153,28 +173,29 @@ impl Sender {
     }
 
     // Keys the link, narrow where it is told 0: three shares of KE, then three of KM.
-    pub fn key(self, number: u32, wide: u32, keys: &[u8]) -> SenderKeying
+    pub fn key(self, number: u32, wide: u32, keys: &[u8]) -> Answered<Sender, (), KeyRefusal>
         ensures answer_value { key_says result.answer ≡ key_answer sender_keys keys.now }
         ensures link_value { result.link
             ≡ if_done (key_answer sender_keys keys.now) (sender_of number (told wide) keys.now) self }
     {
-        if keys.len() != 96 {
-            return SenderKeying {
-                answer: KeyAnswer::BadKeys,
+        match halves(keys) {
+            Ok(both) => {
+                let (ke, km) = both;
+                Answered {
+                    answer: Ok(()),
+                    link: Sender {
+                        keyed: true,
+                        number,
+                        last: 0,
+                        width: Width::from(wide),
+                        ke,
+                        km,
+                    },
+                }
+            }
+            Err(why) => Answered {
+                answer: Err(why),
                 link: self,
-            };
-        }
-        let ke = blocks::blocks_at(keys, 0);
-        let km = blocks::blocks_at(keys, 48);
-        SenderKeying {
-            answer: KeyAnswer::Keyed,
-            link: Sender {
-                keyed: true,
-                number,
-                last: 0,
-                width: Width::told(wide),
-                ke,
-                km,
             },
         }
     }
@@ -182,23 +203,31 @@ impl Sender {
 
 // ---- counter blocks and records' heads
 
-// Counter block i of a sealing.
-pub fn counter_block(number: u32, sequence: u64, i: u32) -> [u8; 16]
-    ensures { result ≡ counter_block number sequence i }
-{
-    let mut block = [0u8; 16];
-    blocks::put_number(&mut block, 0, NUMBER, number as u64);
-    blocks::put_number(&mut block, NUMBER, SEQUENCE_MOST, sequence);
-    blocks::put_number(&mut block, NUMBER + SEQUENCE_MOST, INDEX, i as u64);
-    block
+// What names a sealing: the link's number and a sequence number.
+#[derive(Clone, Copy)]
+pub struct Nonce {
+    pub number: u32,
+    pub sequence: u64,
+}
+
+impl Nonce {
+    // Counter block i.
+    pub fn counter_block(self, i: u32) -> [u8; 16]
+        ensures { result ≡ counter_block self.number self.sequence i }
+    {
+        let mut block = [0u8; 16];
+        blocks::put_number(&mut block, 0, NUMBER, self.number as u64);
+        blocks::put_number(&mut block, NUMBER, SEQUENCE_MOST, self.sequence);
+        blocks::put_number(&mut block, NUMBER + SEQUENCE_MOST, INDEX, i as u64);
+        block
+    }
 }
 
 // Writes the head of a record.
-pub fn put_head(form: Form, number: u32, sequence: u64, out: &mut [u8])
+pub fn put_head(form: Form, nonce: Nonce, out: &mut [u8])
     requires { Proper form × (head_size form ≤ length out.old) }
-    ensures { out.new ≡ put 0 (head_of form number sequence) out.old }
+    ensures { out.new ≡ put 0 (head_of form nonce.number nonce.sequence) out.old }
 {
-    blocks::put_number(out, 0, NUMBER, number as u64);
-    let width = form.sequence;
-    blocks::put_number(out, NUMBER, width, sequence);
+    blocks::put_number(out, 0, NUMBER, nonce.number as u64);
+    blocks::put_number(out, NUMBER, form.sequence, nonce.sequence);
 }

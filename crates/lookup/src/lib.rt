@@ -3,8 +3,7 @@
 
 ghost use Rattle.std.specs.Prelude.{◌≡◌, get_or};
 ghost use Rattle.blocks.specs.Bytes.{tab};
-ghost use Rattle.baksheesh.specs.Baksheesh.{sbox, inv_sbox, sub_cells, inv_sub_cells};
-ghost use Rattle.lookup.specs.TwoCells.{two_cells};
+ghost use Rattle.baksheesh.specs.Baksheesh.{sub_cells, inv_sub_cells};
 
 // The S-box on two neighbouring cells, and its inverse: a row for each high cell.
 const SBOX: [u8; 256] = *b"\
@@ -43,39 +42,21 @@ const INV_SBOX: [u8; 256] = *b"\
     \x71\x7f\x7b\x70\x7c\x75\x72\x7e\x76\x7a\x7d\x74\x78\x73\x77\x79\
     \x91\x9f\x9b\x90\x9c\x95\x92\x9e\x96\x9a\x9d\x94\x98\x93\x97\x99";
 
-fn sbox_table() -> [u8; 256]
-    ensures { result ≡ tab 256 (two_cells sbox) }
-{
-    SBOX
-}
-
-fn inv_sbox_table() -> [u8; 256]
-    ensures { result ≡ tab 256 (two_cells inv_sbox) }
-{
-    INV_SBOX
-}
-
 // Each byte of s looked up in t.
 fn look_up(t: &[u8; 256], s: [u8; 16]) -> [u8; 16]
     ensures { result ≡ tab 16 (λ k. get_or t.now (get_or s k 0) 0) }
 {
-    let mut r = s;
-    for i in 0..16 {
-        r[i] = t[s[i] as usize];
-    }
-    r
+    s.map(|b| t[b as usize])
 }
 
 pub fn sub_cells(s: [u8; 16]) -> [u8; 16]
     ensures { result ≡ sub_cells s }
 {
-    let t = sbox_table();
-    look_up(&t, s)
+    look_up(&SBOX, s)
 }
 
 pub fn inv_sub_cells(s: [u8; 16]) -> [u8; 16]
     ensures { result ≡ inv_sub_cells s }
 {
-    let t = inv_sbox_table();
-    look_up(&t, s)
+    look_up(&INV_SBOX, s)
 }

@@ -1,7 +1,8 @@
 // Bodies written and read: marks at the ends of their ranges and past them, bodies in each order and with each fault.
 #![tactic(auto)]
 
-use body::{Mark, Offset};
+use body::Mark;
+use show::Hex;
 use std::io;
 
 // What an output holds before.
@@ -14,7 +15,7 @@ fn write_into(
     rt: &impl Print,
     seconds: u64,
     fraction: u32,
-    offset: Offset,
+    offset: Option<i32>,
     out: &mut [u8],
 ) -> io::Result<()> {
     let mark = Mark {
@@ -22,43 +23,39 @@ fn write_into(
         fraction,
         offset,
     };
-    let answer = writing::write(mark, out);
-    show::word(rt, b"write ")?;
-    show::number(rt, answer.number() as u64)?;
-    show::bytes(rt, out)
+    let code = answers::code(writing::write(mark, out));
+    println!(rt; "write {code} {}", Hex(out))
 }
 
-fn write(rt: &impl Print, seconds: u64, fraction: u32, offset: Offset) -> io::Result<()> {
+fn write(rt: &impl Print, seconds: u64, fraction: u32, offset: Option<i32>) -> io::Result<()> {
     write_into(rt, seconds, fraction, offset, &mut [FILL; 16])
 }
 
 fn written(rt: &impl Print) -> io::Result<()> {
-    write(rt, 0, 0, Offset::Missing)?;
-    write(rt, 1772456709, 67108864, Offset::Minutes(60))?;
-    write(rt, 72057594037927935, 268435455, Offset::Minutes(840))?;
-    write(rt, 268435456, 1, Offset::Minutes(-720))?;
-    write(rt, 268435455, 0, Offset::Minutes(-1))?;
-    write(rt, 1, 2, Offset::Minutes(0))?;
-    write_into(rt, 1, 2, Offset::Missing, &mut [FILL; 12])
+    write(rt, 0, 0, None)?;
+    write(rt, 1772456709, 67108864, Some(60))?;
+    write(rt, 72057594037927935, 268435455, Some(840))?;
+    write(rt, 268435456, 1, Some(-720))?;
+    write(rt, 268435455, 0, Some(-1))?;
+    write(rt, 1, 2, Some(0))?;
+    write_into(rt, 1, 2, None, &mut [FILL; 12])
 }
 
 fn not_written(rt: &impl Print) -> io::Result<()> {
-    write(rt, 72057594037927936, 0, Offset::Missing)?;
-    write(rt, 0, 268435456, Offset::Missing)?;
-    write(rt, 0, 0, Offset::Minutes(841))?;
-    write_into(rt, 0, 0, Offset::Minutes(-721), &mut [])?;
-    write_into(rt, 0, 0, Offset::Missing, &mut [FILL; 11])?;
-    write_into(rt, 0, 0, Offset::Minutes(0), &mut [FILL; 15])
+    write(rt, 72057594037927936, 0, None)?;
+    write(rt, 0, 268435456, None)?;
+    write(rt, 0, 0, Some(841))?;
+    write_into(rt, 0, 0, Some(-721), &mut [])?;
+    write_into(rt, 0, 0, None, &mut [FILL; 11])?;
+    write_into(rt, 0, 0, Some(0), &mut [FILL; 15])
 }
 
 // ---- reading
 
 // Prints the number that reading gives, and the output.
 fn read_into(rt: &impl Print, body: &[u8], out: &mut [u8]) -> io::Result<()> {
-    let number = reading::read_values(body, out);
-    show::word(rt, b"read ")?;
-    show::number(rt, number as u64)?;
-    show::bytes(rt, out)
+    let code = answers::code(reading::read_values(body, out));
+    println!(rt; "read {code} {}", Hex(out))
 }
 
 fn read(rt: &impl Print, body: &[u8]) -> io::Result<()> {

@@ -1,14 +1,15 @@
 -- CMAC's doubling: by bits, of an XOR, and as arithmetic on bytes. Assumes nothing.
 use Rattle.prelude.proofs.{◌≡◌, refl, sym, ap, ap₂, ◌∙◌, Bool, true, false, ◌&&◌, cond, List, [], ◌∷◌, ℕ, zero, suc, ◌+◌, ◌-◌, ◌*◌}
-use Rattle.prelude.proofs.{◌/◌, ◌%◌, ◌<◌, dec_lt, arith, eqb, eqb-suc-zero, bit_xor, xor_zero_r, xor_lt, get_or, replicate}
+use Rattle.prelude.proofs.{◌/◌, ◌%◌, ◌<◌, dec_lt, arith, eqb, eqb-suc-zero, bit_xor, xor_zero_r, xor_lt, get_or, length, replicate}
 use Rattle.prelude.proofs.{get_or-eq_default}
+use Rattle.std.proofs.Common.{below_more}
 use Rattle.bits.specs.Bit.{bit, odd, ◌⊻◌}
 use Rattle.bits.proofs.XorOfBits.{input, xored, shl, shr, moved}
 use Rattle.bits.proofs.{Laws.bit-zero, Test.four-bits}
 use Rattle.blocks.specs.{Bytes.Block, Bytes.◌⊕◌, Bytes.zeros, Bytes.tab, Bits.bit_at, Bits.block_of}
 use Rattle.blocks.proofs.Xor.{⊕-comm, ⊕-zero, bytes-append, bytes-cons, bytes-nil, bytes-replicate}
 use Rattle.blocks.proofs.ByBits.{is_block, block_of-same, block_of-bits, block_of-⊕, bit-⊕}
-use Rattle.blocks.proofs.ByBytes.{place, bit_byte, tab-bits}
+use Rattle.blocks.proofs.ByBytes.{place, bit_byte, tab-bits, tab-known}
 use Rattle.modes.specs.Cmac.{shifted, R, doubled}
 use Rattle.modes.specs.Doubling.{shifted_byte, product, doubled_bytes}
 
@@ -108,11 +109,18 @@ module _ {b : List ℕ} (w : Block b) where
             rw (e, get_or-eq_default b 0 {n = k + 1} (omega arith)) (bit-zero 7)
       ]
 
-  -- the last byte has nothing behind it
-  pub last-shifted : get_or b 15 0 * 2 % 256 ≡ shifted_byte b 15
-  last-shifted =
-      sym (ap (bit_xor (get_or b 15 0 * 2 % 256)) (ap (λ (n : ℕ). n / 128) (get_or-eq_default b 0 {n = 16} (omega arith)))
-      ∙ xor_zero_r (get_or b 15 0 * 2 % 256))
+  -- so it is byte by byte; the last byte has nothing behind it
+  pub shifted-bytes : (r : List ℕ) → length r ≡ 16 → ((k : ℕ) → k < 15 → get_or r k 0 ≡ shifted_byte b k)
+      → get_or r 15 0 ≡ get_or b 15 0 * 2 % 256 → r ≡ shifted b
+  shifted-bytes r size first last = sym (tab-known (shifted_byte b) r size each) ∙ arithmetic-shifts
+    where
+      none : get_or b 15 0 * 2 % 256 ≡ shifted_byte b 15
+      none =
+          sym (ap (bit_xor (get_or b 15 0 * 2 % 256)) (ap (λ (n : ℕ). n / 128) (get_or-eq_default b 0 {n = 16} (omega arith)))
+          ∙ xor_zero_r (get_or b 15 0 * 2 % 256))
+
+      each : (k : ℕ) → k < 16 → shifted_byte b k ≡ get_or r k 0
+      each = below_more _ 15 (λ k h. sym (first k h)) (sym (last ∙ none))
 
   -- the arithmetic is SP 800-38B's doubling, for every block
   pub arithmetic-doubles : doubled_bytes b ≡ doubled b

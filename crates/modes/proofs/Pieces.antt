@@ -26,6 +26,17 @@ piece-le j m = omega (arith, piece-length j m)
 pub piece-whole : (j : ℕ) (m : List ℕ) → 16 * j + 16 ≤ length m → length (piece j m) ≡ 16
 piece-whole j m h = omega (arith, piece-length j m)
 
+-- the n elements that stand in it, read where it stands
+pub piece-cut : (j n : ℕ) (m : List ℕ) → n ≡ min 16 (length m - 16 * j) → take (16 * j + n - 16 * j) (drop (16 * j) m) ≡ piece j m
+piece-cut j n m e =
+    let k : 16 * j + n - 16 * j ≡ n = omega arith in
+    let l = length-drop (16 * j) m in
+    ap (λ (i : ℕ). take i (drop (16 * j) m)) k
+    ∙ elim (dec_lt n 16) [
+      | yes h ↦ take_all n (drop (16 * j) m) (omega arith) ∙ sym (take_all 16 (drop (16 * j) m) (omega arith))
+      | no h ↦ let s : n ≡ 16 = omega arith in ap (λ (i : ℕ). take i (drop (16 * j) m)) s
+    ]
+
 pub piece_bytes : (j : ℕ) (m : List ℕ) → Bytes m → Bytes (piece j m)
 piece_bytes j m h = bytes_take 16 (drop (16 * j) m) (bytes_drop (16 * j) m h)
 

@@ -10,10 +10,8 @@ fn shift(b: [u8; 16]) -> [u8; 16]
     ensures { result ≡ shifted b }
 {
     let mut r = [0u8; 16];
-    let mut i = 0;
-    while i < 15 {
-        r[i] = (b[i] << 1) ^ (b[i + 1] >> 7);
-        i += 1;
+    for (i, next) in b[1..].iter().enumerate() {
+        r[i] = (b[i] << 1) ^ (next >> 7);
     }
     r[15] = b[15] << 1;
     r
@@ -24,7 +22,7 @@ pub fn double(b: [u8; 16]) -> [u8; 16]
     ensures { result ≡ doubled b }
 {
     let mut r = shift(b);
-    r[15] = r[15] ^ ((b[0] >> 7) * 135);
+    r[15] ^= (b[0] >> 7) * 135;
     r
 }
 
@@ -33,10 +31,16 @@ pub fn width(n: usize, from: usize) -> usize
     requires { from ≤ n }
     ensures { result ≡ min 16 (n - from) }
 {
-    if n - from < 16 {
-        return n - from;
-    }
-    16
+    (n - from).min(16)
+}
+
+// Block j of the text; the last may be shorter.
+fn piece(text: &[u8], j: usize) -> &[u8]
+    requires { 16 * j ≤ length text.now }
+    ensures { result.now ≡ piece j text.now }
+{
+    let from = 16 * j;
+    &text[from..from + width(text.len(), from)]
 }
 
 // Writes block j of the text, XORed with a key block, from `at`.
@@ -44,12 +48,8 @@ pub fn put_xor(text: &[u8], j: usize, key: [u8; 16], out: &mut [u8], at: usize)
     requires { (16 * j ≤ length text.now) × (at + length (piece j text.now) ≤ length out.old) }
     ensures { out.new ≡ put at (piece j text.now ⊕ key) out.old }
 {
-    let from = 16 * j;
-    let n = width(text.len(), from);
-    let mut i = 0;
-    while i < n {
-        out[at + i] = text[from + i] ^ key[i];
-        i += 1;
+    for (i, byte) in piece(text, j).iter().enumerate() {
+        out[at + i] = byte ^ key[i];
     }
 }
 
@@ -58,8 +58,9 @@ pub fn padded_at(text: &[u8], at: usize) -> [u8; 16]
     requires { (at ≤ length text.now) × (length text.now < at + 16) }
     ensures { result ≡ padded (part at 16 text.now) }
 {
+    let rest = &text[at..];
     let mut block = [0u8; 16];
-    blocks::put_bytes(&text[at..], &mut block, 0);
-    block[text.len() - at] = 0x80;
+    block[..rest.len()].copy_from_slice(rest);
+    block[rest.len()] = 0x80;
     block
 }

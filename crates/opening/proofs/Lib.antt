@@ -1,4 +1,3 @@
-pub mod Answers
 pub mod Openable
 pub mod Exactly
 pub mod History

@@ -46,9 +46,6 @@ module _ (f : Form) (C : List ℕ → List ℕ → List ℕ) (x : Opener) (r : L
   abbrev pub verify_causes : List Cause
   verify_causes = number_causes f x r tag_causes
 
-  unfoldable pub verify_answer : Answer
-  verify_answer = first verify_causes (done (message_size f r ∷ []))
-
   -- opening it with room for o bytes, once it passed its test and from its test on
   abbrev pub read_causes : ℕ → List Cause
   read_causes o = (4 when ltb o (message_size f r)) ∷ verify_causes

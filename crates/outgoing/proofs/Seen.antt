@@ -2,7 +2,7 @@
 use Rattle.prelude.proofs.{◌≡◌, ◌++◌, ℕ, ◌≤◌}
 use Rattle.masking.specs.{Shares.Index, Shares.next, Shares.Reader, Stages.Stages, Stages.lane}
 use Rattle.runs.specs.Run.{Run, lane_of}
-use Rattle.walks.specs.{declared.Watch.Watch, declared.Walk.Walk, Walk.Walked}
+use Rattle.walks.specs.{declared.watch.Watch.Watch, declared.Walk.Walk, Walk.Walked}
 use Rattle.outgoing.specs.Outgoing.{lane_in}
 
 pub lane-seen : {D : Stages} {R : Run} {M : Reader} {a : Watch} {k : ℕ} {w : Walk} → Walked D R M a k w → 1 ≤ a.call → a.call ≤ k

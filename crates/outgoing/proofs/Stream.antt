@@ -1,12 +1,9 @@
 -- Three shares, one behind the other, joined byte by byte; those of CTR's calls make whole blocks. Assumes nothing.
-use Rattle.prelude.proofs.{◌≡◌, sym, ap, ap₂, ◌∙◌, List, ℕ, ◌+◌, ◌*◌, ◌≤◌, ◌<◌, arith, bit_xor, length, drop, get_or, get_or-take, get_or-drop}
-use Rattle.blocks.specs.Bytes.{◌⊕◌, part, block_count}
+use Rattle.prelude.proofs.{◌≡◌, refl, sym, ap, ap₂, ◌∙◌, List, ◌++◌, ℕ, ◌+◌, ◌≤◌, ◌<◌, arith, bit_xor, length, take, drop, replicate}
+use Rattle.prelude.proofs.{get_or, get_or-take, get_or-drop, take_at, length-take, length-append}
+use Rattle.blocks.specs.Bytes.{◌⊕◌, part}
 use Rattle.blocks.proofs.{Xor.⊕-length, Xor.get_or-⊕, Parts.part_length}
-use Rattle.modes.proofs.Ctr.{ctr-length}
-use Rattle.links.specs.Record.{longest}
 use Rattle.masking.specs.Shares.{join, shares_in}
-use Rattle.inputs.specs.Inputs.{outs_size, out_at}
-use Rattle.outgoing.specs.Outgoing.{ciphertext_of}
 
 -- three blocks, one behind the other, join to one
 pub join-length : (b : List ℕ) → length b ≡ 48 → length (join (shares_in b)) ≡ 16
@@ -40,9 +37,12 @@ join-at b i l h =
     there : (p : ℕ) → p + 16 ≤ 48 → get_or (part p 16 b) i 0 ≡ get_or b (p + i) 0
     there p q = get_or-take 16 (drop p b) i 0 h ∙ get_or-drop p b i 0
 
-module _ (m o : List ℕ) (short : length m ≤ longest) (size : length o ≡ outs_size) where
-  pub joined-sized : (j : ℕ) → j < block_count (length m) → length (join (out_at j o)) ≡ 16
-  joined-sized j h = join-length (part (48 * j) 48 o) (part_length (48 * j) 48 o (omega arith))
+-- 16 bytes of any list: those of a block are the block
+abbrev pub whole : List ℕ → List ℕ
+whole b = take 16 (b ++ replicate 16 0)
 
-  pub ciphertext-length : length (ciphertext_of m o) ≡ length m
-  ciphertext-length = ctr-length (λ b. b) (λ j. join (out_at j o)) m joined-sized
+pub whole-length : (b : List ℕ) → length (whole b) ≡ 16
+whole-length b = simp (length-take, length-append) (omega arith)
+
+pub whole-block : (b : List ℕ) → length b ≡ 16 → whole b ≡ b
+whole-block b e = rw (← e) (take_at b (replicate 16 0) (length b) refl)

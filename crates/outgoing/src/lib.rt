@@ -3,14 +3,13 @@
 
 ghost use Rattle.std.specs.Prelude.{◌≡◌, ◌+◌, ◌≤◌, ◌<◌, length, take};
 ghost use Rattle.blocks.specs.Bytes.{put};
-ghost use Rattle.links.specs.Record.{Proper, longest, record_size, record_of};
+ghost use Rattle.links.specs.Record.{Proper, record_size, record_of};
 ghost use Rattle.masking.specs.Shares.{index_of, join, shares_in};
-ghost use Rattle.inputs.specs.Inputs.{outs_size};
 ghost use Rattle.outgoing.specs.Outgoing.{ciphertext_of, lane_in};
 
-use links::Form;
-use shares::unpack_shares;
-use walks::Seen;
+use inputs::Outs;
+use links::{Form, Nonce, Text};
+use shares::{Seen, unpack_shares};
 
 // ---- the record
 
@@ -18,52 +17,41 @@ use walks::Seen;
 fn joined(b: [u8; 48]) -> [u8; 16]
     ensures { result ≡ join (shares_in b) }
 {
-    let mut block = [0u8; 16];
-    for i in 0..16 {
-        block[i] = b[i] ^ (b[16 + i] ^ b[32 + i]);
-    }
-    block
+    std::array::from_fn(|i| b[i] ^ (b[16 + i] ^ b[32 + i]))
 }
 
 // Writes the ciphertext from `at`: the message XORed with the joined outputs of CTR's calls.
-fn put_ciphertext(message: &[u8], outs: &[u8], out: &mut [u8], at: usize)
-    requires message_len_bound { (length message.now ≤ longest) × (length outs.now ≡ outs_size) }
-    requires message_in_bounds { at + length message.now ≤ length out.old }
-    ensures { out.new ≡ put at (ciphertext_of message.now outs.now) out.old }
+fn put_ciphertext(message: &Text, outs: &Outs, out: &mut [u8], at: usize)
+    requires { at + length message.now ≤ length out.old }
+    ensures written { out.new ≡ put at (ciphertext_of message.now outs.now) out.old }
+    ensures size { length (ciphertext_of message.now outs.now) ≡ length message.now }
 {
-    let count = (message.len() + 15) / 16;
-    let mut j = 0;
-    while j < count {
-        let key = joined(blocks::blocks_at(outs, 48 * j));
-        modes::put_xor(message, j, key, out, at + 16 * j);
-        j += 1;
+    let text = message.bytes;
+    for j in 0..text.len().div_ceil(16) {
+        modes::put_xor(text, j, joined(outs[j]), out, at + 16 * j);
     }
 }
 
 // Writes the record from the output's start: its head, the ciphertext, the joined tag.
 pub fn put_record(
     form: Form,
-    number: u32,
-    sequence: u64,
-    message: &[u8],
-    outs: &[u8],
+    nonce: Nonce,
+    message: &Text,
+    outs: &Outs,
     shares: [u8; 48],
     out: &mut [u8],
 )
     requires proper { Proper form }
-    requires message_len_bound { (length message.now ≤ longest) × (length outs.now ≡ outs_size) }
-    requires message_in_bounds { record_size form (length message.now) ≤ length out.old }
+    requires room { record_size form (length message.now) ≤ length out.old }
     ensures { let text = ciphertext_of message.now outs.now in
         let tag = take form.tag (join (shares_in shares)) in
-        out.new ≡ put 0 (record_of form number sequence text tag) out.old }
+        out.new ≡ put 0 (record_of form nonce.number nonce.sequence text tag) out.old }
 {
     let head = form.head();
-    let end = head + message.len();
-    links::put_head(form, number, sequence, out);
+    let end = head + message.bytes.len();
+    links::put_head(form, nonce, out);
     put_ciphertext(message, outs, out, head);
-    let code = joined(shares);
-    let size = form.tag;
-    blocks::put_bytes(&code[..size], out, end);
+    blocks::put_bytes(&joined(shares)[..form.tag], out, end);
 }
 
 // ---- a lane
@@ -73,14 +61,12 @@ pub fn lane_of(seen: Seen, i: u32) -> [u8; 48]
     requires { i < 3 }
     ensures { result ≡ lane_in seen (index_of i) }
 {
-    let state = seen.state;
-    let key = seen.key;
-    let states = unpack_shares(state);
-    let keys = unpack_shares(key);
+    let states = unpack_shares(seen.state);
+    let keys = unpack_shares(seen.key);
     let own = i as usize;
     blocks::three_blocks(
-        blocks::block_at(&states, 16 * ((own + 1) % 3)),
-        blocks::block_at(&states, 16 * ((own + 2) % 3)),
-        blocks::block_at(&keys, 16 * own),
+        blocks::bytes_at(&states, 16 * ((own + 1) % 3)),
+        blocks::bytes_at(&states, 16 * ((own + 2) % 3)),
+        blocks::bytes_at(&keys, 16 * own),
     )
 }

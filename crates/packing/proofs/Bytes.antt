@@ -4,7 +4,7 @@ use Rattle.prelude.proofs.{pow_pos, get_or}
 use Rattle.bits.specs.Bit.{bit, number}
 use Rattle.bits.proofs.Laws.{number_same, number-bits, bit-low, bit-shr}
 use Rattle.bits.proofs.Test.{each, agree, agree²}
-use Rattle.bits.proofs.XorOfBits.{Made, own, down, input, wider, same, moved}
+use Rattle.bits.proofs.XorOfBits.{Made, same, moved}
 use Rattle.blocks.specs.{Bytes.Block, Bytes.Bytes, Bits.block_of, Bits.cells, Bits.rearranged}
 use Rattle.blocks.proofs.{Xor.bytes-cons, Xor.bytes-nil, ByBits.rearranged-twice, ByBits.rearranged-same}
 use Rattle.baksheesh.proofs.Steps.{at-inside}
@@ -22,10 +22,6 @@ byte_at y n f e =
 pub four_bytes : {a b c d : ℕ} → a < 256 → b < 256 → c < 256 → d < 256 → Bytes (a ∷ b ∷ c ∷ d ∷ [])
 four_bytes {a} {b} {c} {d} p q r s =
     bytes-cons a (b ∷ c ∷ d ∷ []) p (bytes-cons b (c ∷ d ∷ []) q (bytes-cons c (d ∷ []) r (bytes-cons d [] s bytes-nil)))
-
--- bytes, as words
-pub bytes-made : (ws : List ℕ) → Bytes ws → (k : ℕ) → Made 32 ws (get_or ws k 0) (down 8 0 (own k))
-bytes-made ws small k = wider (input 8 ws k (omega arith) (small k)) 32 (omega arith) (omega arith)
 
 flip-byte : (k i : ℕ) → k < 4 → i < 8 → reversed 3 (8 * k + i) / 8 ≡ k
 flip-byte = agree² 4 8 (λ k i. reversed 3 (8 * k + i) / 8) (λ k i. k) tt

@@ -6,25 +6,20 @@ ghost use Rattle.blocks.specs.Bits.{rearranged};
 ghost use Rattle.words.specs.Words.{unpacked};
 ghost use Rattle.packing.specs.Bytes.{reversed, scattered};
 
-use bits::{byte, swapmove};
+use bits::swapmove;
 
 // Four bytes in one word, a lowest, the bits of each as `scattered` has them.
 fn gather(a: u8, b: u8, c: u8, d: u8) -> u32
     ensures { scattered result ≡ d ∷ c ∷ b ∷ a ∷ [] }
 {
-    swapmove(
-        a as u32 ^ (b as u32) << 8 ^ (c as u32) << 16 ^ (d as u32) << 24,
-        0x0a0a_0a0a,
-        3,
-    )
+    swapmove(u32::from_le_bytes([a, b, c, d]), 0x0a0a_0a0a, 3)
 }
 
 // The bytes of a word, highest first.
 fn scatter(x: u32) -> [u8; 4]
     ensures { result ≡ scattered x }
 {
-    let y = swapmove(x, 0x0a0a_0a0a, 3);
-    [byte(y, 24), byte(y, 16), byte(y, 8), byte(y, 0)]
+    swapmove(x, 0x0a0a_0a0a, 3).to_be_bytes()
 }
 
 // Bits 0 and 1 of a word's number change places with bits 2 and 1 of a place in it.

@@ -1,43 +1,48 @@
 -- The calls of a job one after the other: what each takes in, and what becomes of its output. Assumes nothing.
-use Rattle.prelude.proofs.{◌≡◌, refl, sym, ap, ap₂, ◌∙◌, List, [], ◌∷◌, ℕ, zero, suc, ◌+◌, ◌-◌, ◌*◌, ◌≤◌, ◌<◌, ◌^◌, add-one}
-use Rattle.prelude.proofs.{ℕ_discrete, arith, length, eq-eqb, ne_eqb}
-use Rattle.blocks.specs.Bytes.{zeros, put}
-use Rattle.blocks.proofs.{Parts.put-length, Written.part-before, Written.part-there}
+use Rattle.prelude.proofs.{◌≡◌, refl, sym, ap, ap₂, ◌∙◌, List, [], ◌∷◌, ℕ, zero, suc, ◌+◌, ◌-◌, ◌≤◌, ◌<◌, add-one}
+use Rattle.prelude.proofs.{ℕ_discrete, arith, length, set, get_or-set_same, get_or-set_other, eq-eqb, ne_eqb}
+use Rattle.blocks.specs.Bytes.{zeros}
 use Rattle.words.specs.Words.{unpacked}
 use Rattle.links.specs.Record.{counter_block}
-use Rattle.masking.specs.Shares.{i₀, i₁, i₂, Shares, add, each, only, shares_in, flat, Reader, masks_at}
-use Rattle.masking.specs.Call.{encryption, pair_count, call_size}
-use Rattle.masking.proofs.{Shape.shares-same, Lane.parts-length, Lane.shares-flat}
-use Rattle.shares.specs.{declared.Triple.Triple, Packed.shares_of}
+use Rattle.masking.specs.Shares.{Shares, add, each, only, shares_in, flat, Reader, at, masks_at}
+use Rattle.masking.specs.Call.{encryption}
+use Rattle.masking.proofs.{Shape.shares-same, Lane.shares-flat}
+use Rattle.shares.specs.{declared.Triple.Triple, declared.Tape.Tape, Packed.shares_of}
 use Rattle.shares.proofs.{Packed.zero-words, Onward.packed-blocks}
 use Rattle.runs.specs.Run.{Run, key_shares, outputs, input_of, output_of}
 use Rattle.runs.proofs.Run.{output-at}
-use Rattle.walks.specs.{declared.Watch.Watch, declared.Walk.Walk, Walk.Stepped}
+use Rattle.walks.specs.{declared.watch.Watch.Watch, declared.Walk.Walk, Walk.Stepped}
 use Rattle.walks.proofs.Walking.{step-more}
 use Rattle.calls.specs.Numbered.{Call, ctr, sub, mac, IsCall, of_key, key_at}
 use Rattle.calls.specs.Job.{Job, last_key, count, place_of, call_in, mac_block, chain, subkey, input_from, job_calls, ctr_out}
 use Rattle.calls.specs.Sealed.{text_block, sealing_job}
 use Rattle.calls.proofs.Numbered.{call_back}
-use Rattle.inputs.specs.Inputs.{outs_size, block_shares}
-use Rattle.path.specs.Path.{Room, Counted, IsJob, JobWalked, OutsHold, BlocksHold}
+use Rattle.inputs.specs.Inputs.{block_shares}
+use Rattle.path.specs.Path.{Counted, IsJob, JobWalked, OutsHold, BlocksHold}
 
 zero-shares : only (unpacked (0 ∷ 0 ∷ 0 ∷ 0 ∷ [])) ≡ λ i. zeros
 zero-shares = shares-same zero-words refl refl
 
--- of n calls from w on, v stands behind j: the next one can be done
-pub room-left : {n : ℕ} {t : List ℕ} {a : Watch} {w : Walk} → Room n t a w → (j : ℕ) → j < n → {v : Walk} → Counted j w v
-    → (1 ≤ a.pair) × (a.pair ≤ pair_count) × (v.used + call_size ≤ length t) × (v.calls < 2 ^ 32)
-room-left R j h C = (R.low, R.high, omega (arith, R.tape, C.used), omega (arith, R.calls, C.calls))
-
 pub counted_none : (w : Walk) → Counted 0 w w
-counted_none w = record { used = omega arith; calls = omega arith }
+counted_none w = record { bytes = refl; used = omega arith; calls = omega arith }
 
 pub counted-at : {j k : ℕ} {w r : Walk} → j ≡ k → Counted j w r → Counted k w r
-counted-at e C = record { used = omega (arith, C.used); calls = omega (arith, C.calls) }
+counted-at e C = record { bytes = C.bytes; used = omega (arith, C.used); calls = omega (arith, C.calls) }
+
+pub counted-on : {j k : ℕ} {w v r : Walk} → Counted j w v → Counted k v r → Counted (j + k) w r
+counted-on C E = record {
+  bytes = E.bytes ∙ C.bytes;
+  used = omega (arith, C.used, E.used);
+  calls = omega (arith, C.calls, E.calls);
+}
 
 pub counted-more : {j : ℕ} {w v r : Walk} → Counted j w v → {k x : Shares} {M : Reader} {a : Watch}
     → Stepped encryption k x M a v r → Counted (j + 1) w r
-counted-more C S = record { used = omega (arith, C.used, S.used); calls = omega (arith, C.calls, S.calls) }
+counted-more C S = record {
+  bytes = ap (λ (t : Tape). t.bytes) S.tape ∙ C.bytes;
+  used = omega (arith, C.used, ap (λ (t : Tape). t.used) S.tape);
+  calls = omega (arith, C.calls, S.calls);
+}
 
 module _ (J : Job) (M : Reader) where
   abbrev R : Run
@@ -63,7 +68,7 @@ module _ (J : Job) (M : Reader) where
     pub call-more : (a : Watch) (k : ℕ) → place_of J c ≡ k + 1 → {key input : Shares}
         → key ≡ add (shares_in (of_key J.ke J.km c)) (masks_at M (key_at c))
         → input ≡ input_from J c (outputs encryption R M (place_of J c - 1))
-        → {w r : Walk} → JobWalked J M a k w → Stepped encryption key input M a w r
+        → {w r : Walk} → JobWalked J M a k w → Stepped encryption key input (at w.tape.bytes.now) w.watch w r
         → JobWalked J M a (place_of J c) r × (shares_of r.out ≡ out (place_of J c))
     call-more a k number ek ei W S =
         step-more encryption R M a k (place_of J c) number (omega arith) (ek ∙ key-given) (ei ∙ input-given) W S
@@ -74,25 +79,20 @@ module _ (J : Job) (M : Reader) where
   unfolding input_from
   ctr-in I j f = sym (λ i. only (counter_block (I.number i) (I.sequence i) j))
 
-  pub outs-none : (o : List ℕ) → length o ≡ outs_size → OutsHold J M 0 o
-  outs-none o s = record { size = s; hold = λ j h. absurd (omega arith) }
+  pub outs-none : (o : List (List ℕ)) → OutsHold J M 0 o
+  outs-none o = record { hold = λ j h. absurd (omega arith) }
 
-  pub outs-more : (j : ℕ) (t : Triple) (v o : List ℕ) → OutsHold J M j o → 48 * j + 48 ≤ outs_size → v ≡ flat (shares_of t)
-      → shares_of t ≡ ctr_out J M j → OutsHold J M (j + 1) (put (48 * j) v o)
+  pub outs-more : (j : ℕ) (t : Triple) (v : List ℕ) (o : List (List ℕ)) → OutsHold J M j o → j < length o → v ≡ flat (shares_of t)
+      → shares_of t ≡ ctr_out J M j → OutsHold J M (j + 1) (set o j v)
   outs-more j t v o H fit e d = record {
-    size = put-length (48 * j) v o (omega (arith, long, H.size)) ∙ H.size;
     hold = λ i l. elim (ℕ_discrete i j) [
-      | yes q ↦ rw q
-          (ap shares_in (part-there (48 * j) v o (omega (arith, H.size)) 48 long ∙ e) ∙ shares-flat (shares_of t) (packed-blocks t) ∙ d)
-      | no q ↦ ap shares_in (part-before (48 * j) v o (omega (arith, H.size)) (48 * i) 48 (omega arith)) ∙ H.hold i (omega arith)
+      | yes q ↦ rw (q, get_or-set_same) (ap shares_in e ∙ shares-flat (shares_of t) (packed-blocks t) ∙ d)
+      | no q ↦ rw get_or-set_other (H.hold i (omega arith))
     ];
   }
-    where
-      long : length v ≡ 48
-      long = ap length e ∙ parts-length (packed-blocks t i₀) (packed-blocks t i₁) (packed-blocks t i₂)
 
-  pub outs-at : {j k : ℕ} {o : List ℕ} → j ≡ k → OutsHold J M j o → OutsHold J M k o
-  outs-at e H = record { size = H.size; hold = λ i l. H.hold i (omega arith) }
+  pub outs-at : {j k : ℕ} {o : List (List ℕ)} → j ≡ k → OutsHold J M j o → OutsHold J M k o
+  outs-at e H = record { hold = λ i l. H.hold i (omega arith) }
 
   -- ---- what CMAC's calls take in
 
@@ -130,7 +130,7 @@ module _ (J : Job) (M : Reader) where
   chain-known (suc j) = known (suc j) (place_of J (mac j)) (omega arith) (omega arith)
 
   -- its block, with the output shares in o
-  pub block_held : {n s z : ℕ} → IsJob J n s z → (m o : List ℕ) → BlocksHold J M m o → (j : ℕ) → j ≤ count J
+  pub block_held : {n s z : ℕ} → IsJob J n s z → (m : List ℕ) (o : List (List ℕ)) → BlocksHold J M m o → (j : ℕ) → j ≤ count J
       → block_shares n s m o j ≡ mac_block J (f j) j
   unfolding mac_block
   block_held I m o H zero l = sym (λ i. only (counter_block (I.number i) (I.sequence i) 0))
@@ -149,7 +149,7 @@ module _ (J : Job) (M : Reader) where
 
 -- ---- in a sealing the output shares that CTR's calls left are those that its blocks are made of
 
-pub sealing-held : (M : Reader) (ke km : List ℕ) (n s : ℕ) (m o : List ℕ) → let J = sealing_job ke km n s m in
+pub sealing-held : (M : Reader) (ke km : List ℕ) (n s : ℕ) (m : List ℕ) (o : List (List ℕ)) → let J = sealing_job ke km n s m in
     OutsHold J M (count J) o → BlocksHold J M m o
 sealing-held M ke km n s m o H j l =
     let J : Job = sealing_job ke km n s m in

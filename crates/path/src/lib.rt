@@ -5,24 +5,23 @@ ghost use Rattle.std.specs.Prelude.{◌≡◌, ◌+◌, ◌*◌, ◌≤◌, leng
 ghost use Rattle.blocks.specs.Bytes.{block_count};
 ghost use Rattle.links.specs.Record.{longest};
 ghost use Rattle.masking.specs.Shares.{at, pair_size};
-ghost use Rattle.masking.specs.Call.{pair_count};
 ghost use Rattle.shares.specs.Packed.{shares_of};
 ghost use Rattle.calls.specs.Numbered.{call_count, tape_need};
 ghost use Rattle.calls.specs.Sealed.{sealing_job};
-ghost use Rattle.inputs.specs.Inputs.{outs_size};
 ghost use Rattle.path.specs.Path.{Room, KeysMasked, CtrDone, ChainDone, MacDone, SealingDone};
 
-use inputs::{last_key, mac_block};
+use inputs::{Outs, last_key, mac_block};
+use links::{Nonce, Text};
 use packing::pack;
-use shares::{CALL, PAIR, Triple, add_shares, only, unpack_shares};
-use walks::{Seen, Walk, Watch, mask_key, step};
+use shares::{CALL, PAIR, Seen, Tape, Triple, add_shares, only, unpack_shares};
+use walks::{Walk, Watch, mask_key};
 
 // The calls of a job for n bytes.
 pub fn call_count(n: usize) -> usize
     requires { n ≤ longest }
     ensures { result ≡ call_count (block_count n) }
 {
-    2 * ((n + 15) / 16) + 2
+    2 * n.div_ceil(16) + 2
 }
 
 // The tape bytes that it needs.
@@ -36,157 +35,96 @@ pub fn tape_need(n: usize) -> usize
 // ---- the keys
 
 // The shares of KE and KM, masked, and a walk that begins behind their masks.
-#[derive(Clone, Copy)]
-pub struct Begun {
+pub struct Begun<'a> {
     pub e: Triple,
     pub m: Triple,
-    pub start: Walk,
+    pub walk: Walk<'a>,
 }
 
 // Draws the masks of both keys.
-pub fn begin(ke: [u8; 48], km: [u8; 48], tape: &[u8]) -> Begun
+pub fn begin<'a>(ke: [u8; 48], km: [u8; 48], tape: &'a [u8], watch: Watch) -> Begun<'a>
     requires { 2 * pair_size ≤ length tape.now }
-    ensures { KeysMasked ke km (at tape.now) result }
+    ensures { KeysMasked ke km tape.now watch result }
 {
-    let first = mask_key(ke, tape, 0);
-    let second = mask_key(km, tape, first.used);
-    let e = first.key;
-    let m = second.key;
+    let mut tape = Tape {
+        bytes: tape,
+        used: 0,
+    };
+    let e = mask_key(ke, &mut tape);
+    let m = mask_key(km, &mut tape);
     let none = only([0; 4]);
-    let start = Walk {
+    let walk = Walk {
         out: none,
         calls: 0,
-        used: second.used,
+        tape,
+        watch,
         seen: Seen {
             state: none,
             key: none,
         },
     };
-    Begun { e, m, start }
+    Begun { e, m, walk }
 }
 
 // ---- CTR's calls
 
-// The calls for each block of `len` bytes; their output shares go into `outs`, one call behind the other.
-pub fn ctr_calls(
-    number: u32,
-    sequence: u64,
-    len: usize,
-    tape: &[u8],
-    key: Triple,
-    start: Walk,
-    watch: Watch,
-    outs: &mut [u8],
-) -> Walk
-    requires { (len ≤ longest) × Room (block_count len) tape.now watch start × (length outs.old ≡ outs_size) }
-    ensures { CtrDone number sequence len (shares_of key) (at tape.now) watch start outs.new result }
+// The calls for each block of `len` bytes; their output shares go into `outs`.
+pub fn ctr_calls(nonce: Nonce, len: usize, key: Triple, walk: &mut Walk, outs: &mut Outs)
+    requires { (len ≤ longest) × Room (block_count len) walk.old }
+    ensures { CtrDone nonce.number nonce.sequence len (shares_of key) walk.old outs.new walk.new }
 {
-    let count = (len + 15) / 16;
-    let mut w = start;
-    let mut j = 0;
-    while j < count {
-        let block = links::counter_block(number, sequence, j as u32);
-        let next = step(w, key, only(pack(block)), tape, watch);
-        let out = next.out;
-        blocks::put_bytes(&unpack_shares(out), outs, 48 * j);
-        w = next;
-        j += 1;
+    for j in 0..len.div_ceil(16) {
+        walk.step(key, only(pack(nonce.counter_block(j as u32))));
+        outs[j] = unpack_shares(walk.out);
     }
-    w
 }
 
 // ---- CMAC's calls
 
 // The calls of the chain up to the last block, from three zero shares.
-fn chain_calls(
-    number: u32,
-    sequence: u64,
-    message: &[u8],
-    outs: &[u8],
-    tape: &[u8],
-    key: Triple,
-    start: Walk,
-    watch: Watch,
-) -> Walk
-    requires message_len_bound { (length message.now ≤ longest) × (length outs.now ≡ outs_size) }
-    requires room { Room (block_count (length message.now)) tape.now watch start }
-    ensures { ChainDone number sequence message.now outs.now (shares_of key) (at tape.now) watch
-        start result }
+fn chain_calls(nonce: Nonce, message: &Text, outs: &Outs, key: Triple, walk: &mut Walk)
+    requires { Room (block_count (length message.now)) walk.old }
+    ensures { ChainDone nonce.number nonce.sequence message.now outs.now (shares_of key) walk.old walk.new }
 {
-    let count = (message.len() + 15) / 16;
-    let seen = start.seen;
-    let mut w = Walk {
-        out: only([0; 4]),
-        calls: start.calls,
-        used: start.used,
-        seen,
-    };
-    let mut j = 0;
-    while j < count {
-        let chained = w.out;
-        let block = mac_block(number, sequence, message, outs, j);
-        let next = step(w, key, add_shares(chained, block), tape, watch);
-        w = next;
-        j += 1;
+    walk.out = only([0; 4]);
+    for j in 0..message.bytes.len().div_ceil(16) {
+        let block = mac_block(nonce, message, outs, j);
+        walk.step(key, add_shares(walk.out, block));
     }
-    w
 }
 
 // The subkeys' call, the chain's, and the last one, whose output is the code's shares. A ciphertext block is what stands for it in `outs`,
 // cut to the message block, with the message block in share 0.
-pub fn mac_calls(
-    number: u32,
-    sequence: u64,
-    message: &[u8],
-    outs: &[u8],
-    tape: &[u8],
-    key: Triple,
-    start: Walk,
-    watch: Watch,
-) -> Walk
-    requires message_len_bound { (length message.now ≤ longest) × (length outs.now ≡ outs_size) }
-    requires room { Room (block_count (length message.now) + 2) tape.now watch start }
-    ensures { MacDone number sequence message.now outs.now (shares_of key) (at tape.now) watch
-        start result }
+pub fn mac_calls(nonce: Nonce, message: &Text, outs: &Outs, key: Triple, walk: &mut Walk)
+    requires { Room (block_count (length message.now) + 2) walk.old }
+    ensures { MacDone nonce.number nonce.sequence message.now outs.now (shares_of key) walk.old walk.new }
 {
-    let zero = step(start, key, only([0; 4]), tape, watch);
-    let l = zero.out;
-    let subkey = last_key(l, message.len());
-    let chained = chain_calls(number, sequence, message, outs, tape, key, zero, watch);
-    let c = chained.out;
-    let count = (message.len() + 15) / 16;
-    let last = mac_block(number, sequence, message, outs, count);
-    step(
-        chained,
-        key,
-        add_shares(c, add_shares(subkey, last)),
-        tape,
-        watch,
-    )
+    let len = message.bytes.len();
+    walk.step(key, only([0; 4]));
+    let subkey = last_key(walk.out, len);
+    chain_calls(nonce, message, outs, key, walk);
+    let last = mac_block(nonce, message, outs, len.div_ceil(16));
+    walk.step(key, add_shares(walk.out, add_shares(subkey, last)));
 }
 
 // ---- sealing
 
 // The calls of a sealing, in their order. CTR's output shares go into `outs`; the last call's output is the tag's shares.
-pub fn run(
-    number: u32,
-    sequence: u64,
+pub fn run<'a>(
+    nonce: Nonce,
     ke: [u8; 48],
     km: [u8; 48],
-    message: &[u8],
-    tape: &[u8],
+    message: &Text,
+    tape: &'a [u8],
     watch: Watch,
-    outs: &mut [u8],
-) -> Walk
-    requires message_len_bound { (length message.now ≤ longest) × (tape_need (length message.now) ≤ length tape.now) }
-    requires le_pair { (1 ≤ watch.pair) × (watch.pair ≤ pair_count) × (length outs.old ≡ outs_size) }
-    ensures { SealingDone (sealing_job ke km number sequence message.now) (at tape.now) watch
+    outs: &mut Outs,
+) -> Walk<'a>
+    requires { tape_need (length message.now) ≤ length tape.now }
+    ensures { SealingDone (sealing_job ke km nonce.number nonce.sequence message.now) (at tape.now) watch
         outs.new result }
 {
-    let keys = begin(ke, km, tape);
-    let e = keys.e;
-    let m = keys.m;
-    let start = keys.start;
-    let crypted = ctr_calls(number, sequence, message.len(), tape, e, start, watch, outs);
-    mac_calls(number, sequence, message, outs, tape, m, crypted, watch)
+    let Begun { e, m, mut walk } = begin(ke, km, tape, watch);
+    ctr_calls(nonce, message.bytes.len(), e, &mut walk, outs);
+    mac_calls(nonce, message, outs, m, &mut walk);
+    walk
 }

@@ -7,34 +7,43 @@ ghost use Rattle.baksheesh.specs.Baksheesh.{perm_bits, inv_perm_bits};
 ghost use Rattle.permute.specs.InWord.{from_in_word, to_in_word};
 
 use bits::{byte, swapmove};
+use std::array::from_fn;
 
 // The word of the bytes at i, i + n, i + 2n and i + 3n, the highest first.
 fn word(s: [u8; 16], i: usize, n: usize) -> u32
     requires { i + 3 * n < 16 }
     ensures { (b : ℕ) → b < 32 → bit result b ≡ bit (get_or s (i + (3 - b / 8) * n) 0) (b % 8) }
 {
-    (s[i] as u32) << 24 ^ (s[i + n] as u32) << 16 ^ (s[i + 2 * n] as u32) << 8 ^ s[i + 3 * n] as u32
+    u32::from_be_bytes([s[i], s[i + n], s[i + 2 * n], s[i + 3 * n]])
 }
 
-// The bit move within a word, and back.
+// The bit move within a word as delta swaps, each by a mask and a distance. Each undoes itself: backwards they are the move back.
+const SWAPS: [(u32, u32); 5] = [
+    (0x0014_0014, 8),
+    (0x0282_0282, 4),
+    (0x0008_0008, 12),
+    (0x0000_ff00, 8),
+    (0x00f0_00f0, 4),
+];
+
 fn move_word(x: u32) -> u32
     ensures { (i : ℕ) → i < 32 → bit result i ≡ bit x (from_in_word i) }
 {
-    let x1 = swapmove(x, 0x0014_0014, 8);
-    let x2 = swapmove(x1, 0x0282_0282, 4);
-    let x3 = swapmove(x2, 0x0008_0008, 12);
-    let x4 = swapmove(x3, 0x0000_ff00, 8);
-    swapmove(x4, 0x00f0_00f0, 4)
+    let mut y = x;
+    for (mask, n) in &SWAPS {
+        y = swapmove(y, *mask, *n);
+    }
+    y
 }
 
 fn inv_move_word(x: u32) -> u32
     ensures { (i : ℕ) → i < 32 → bit result i ≡ bit x (to_in_word i) }
 {
-    let x1 = swapmove(x, 0x00f0_00f0, 4);
-    let x2 = swapmove(x1, 0x0000_ff00, 8);
-    let x3 = swapmove(x2, 0x0008_0008, 12);
-    let x4 = swapmove(x3, 0x0282_0282, 4);
-    swapmove(x4, 0x0014_0014, 8)
+    let mut y = x;
+    for (mask, n) in SWAPS.iter().rev() {
+        y = swapmove(y, *mask, *n);
+    }
+    y
 }
 
 pub fn perm_bits(s: [u8; 16]) -> [u8; 16]
@@ -46,11 +55,7 @@ pub fn perm_bits(s: [u8; 16]) -> [u8; 16]
         move_word(word(s, 8, 1)),
         move_word(word(s, 12, 1)),
     ];
-    let mut r = [0u8; 16];
-    for i in 0..16 {
-        r[i] = byte(w[i % 4], 8 * (3 - i / 4));
-    }
-    r
+    from_fn(|i| byte(w[i % 4], 8 * (3 - i / 4)))
 }
 
 pub fn inv_perm_bits(s: [u8; 16]) -> [u8; 16]
@@ -62,9 +67,5 @@ pub fn inv_perm_bits(s: [u8; 16]) -> [u8; 16]
         inv_move_word(word(s, 2, 4)),
         inv_move_word(word(s, 3, 4)),
     ];
-    let mut r = [0u8; 16];
-    for i in 0..16 {
-        r[i] = byte(w[i / 4], 8 * (3 - i % 4));
-    }
-    r
+    from_fn(|i| byte(w[i / 4], 8 * (3 - i % 4)))
 }

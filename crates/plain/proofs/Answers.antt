@@ -1,7 +1,7 @@
--- What plain sealing answers, by the place of its first cause, and what it asks where none applies. Assumes nothing.
-use Rattle.prelude.proofs.{◌≡◌, List, [], ◌∷◌, ℕ, ◌≤◌, arith, eqb, length, take, eqb-true, eqb-false, ltb-false, not-false}
-use Rattle.answers.specs.Answer.{done, refused, NoneOf}
-use Rattle.answers.proofs.First.{Applies, number_at, refused-at, done_none}
+-- What plain sealing answers and what it asks, where no cause applies. Assumes nothing.
+use Rattle.prelude.proofs.{◌≡◌, List, [], ◌∷◌, ℕ, ◌≤◌, arith, eqb, length, eqb-true, eqb-false, ltb-false, not-false}
+use Rattle.answers.specs.Answer.{done, NoneOf}
+use Rattle.answers.proofs.First.{done_none}
 use Rattle.links.specs.{Record.longest, Record.record_size, Record.greatest, declared.Form.Form}
 use Rattle.plain.specs.Entry.{plain_keys, plain_causes, plain_answer}
 
@@ -14,11 +14,6 @@ pub record PlainSealable (f : Form) (keys : List ℕ) (s : ℕ) (m : List ℕ) (
   pub room : record_size f (length m) ≤ o
 
 module _ (f : Form) (keys : List ℕ) (s : ℕ) (m : List ℕ) (o : ℕ) where
-  pub plain-refused : (k : ℕ) → NoneOf (take k (plain_causes f keys s m o)) → Applies k (plain_causes f keys s m o)
-      → plain_answer f keys s m o ≡ refused (number_at k (plain_causes f keys s m o))
-  unfolding plain_answer
-  plain-refused k = refused-at k (plain_causes f keys s m o) _
-
   pub plain_done : NoneOf (plain_causes f keys s m o) → plain_answer f keys s m o ≡ done (record_size f (length m) ∷ [])
   unfolding plain_answer
   plain_done = done_none (plain_causes f keys s m o) _

@@ -1,12 +1,14 @@
--- The number and the values of each answer of plain sealing. Assumes nothing.
-use Rattle.std.specs.Prelude.{[], ◌∷◌}
-use Rattle.answers.specs.Answer.{Answer, done, refused}
-use Rattle.plain_sealing.specs.declared.PlainAnswer.{PlainAnswer}
-use Rattle.plain_sealing.specs.declared.PlainAnswer.TheVariants.{Sealed, BadKeys, BadSequence, LongMessage, ShortOutput}
+-- The number of each refusal of plain sealing, and the values of what it returns. Assumes nothing.
+use Rattle.std.specs.Prelude.{[], ◌∷◌, ℕ, Result}
+use Rattle.answers.specs.Answer.{Answer, said}
+use Rattle.plain_sealing.specs.declared.PlainRefusal.{PlainRefusal}
+use Rattle.plain_sealing.specs.declared.PlainRefusal.TheVariants.{BadKeys, BadSequence, LongMessage, ShortOutput}
 
-abbrev pub plain_says : PlainAnswer → Answer
-plain_says (Sealed n) = done (n ∷ [])
-plain_says BadKeys = refused 1
-plain_says BadSequence = refused 10
-plain_says LongMessage = refused 2
-plain_says ShortOutput = refused 4
+abbrev pub plain_number : PlainRefusal → ℕ
+plain_number BadKeys = 1
+plain_number BadSequence = 10
+plain_number LongMessage = 2
+plain_number ShortOutput = 4
+
+abbrev pub plain_says : Result ℕ PlainRefusal → Answer
+plain_says = said (λ n. n ∷ []) plain_number

@@ -3,65 +3,64 @@
 
 ghost use Rattle.std.specs.Prelude.{◌≡◌, ◌≤◌, length};
 ghost use Rattle.blocks.specs.Bytes.{put};
-ghost use Rattle.answers.specs.Answer.{number_of};
 ghost use Rattle.baksheesh.specs.Baksheesh.{encrypt};
-ghost use Rattle.links.specs.Record.{Proper, longest, record_size, told, form_of};
+ghost use Rattle.links.specs.Record.{Proper, record_size, told, form_of};
 ghost use Rattle.plain.specs.Plain.{plain_record};
 ghost use Rattle.plain.specs.Entry.{plain_answer, plain_output};
-ghost use Rattle.plain_sealing.specs.Says.{plain_says};
+ghost use Rattle.plain_sealing.specs.Says.{plain_number, plain_says};
 
-use links::{Form, Width};
+use links::{Form, KeyRefusal, Nonce, Text, Width};
 
-#[derive(Clone, Copy)]
-pub enum PlainAnswer {
-    // The length written.
-    Sealed { len: usize },
+#[derive(Clone, Copy, Debug, PartialEq, Eq)]
+pub enum PlainRefusal {
     BadKeys,
     BadSequence,
     LongMessage,
     ShortOutput,
 }
 
-impl PlainAnswer {
-    // 0, or the refusal's number.
-    pub fn number(self) -> u32
-        ensures { result ≡ number_of (plain_says self) }
-    {
-        match self {
-            PlainAnswer::Sealed { len: _ } => 0,
-            PlainAnswer::BadKeys => 1,
-            PlainAnswer::BadSequence => 10,
-            PlainAnswer::LongMessage => 2,
-            PlainAnswer::ShortOutput => 4,
+impl From<PlainRefusal> for u32 {
+    ghost from_gives = { λ why n. n ≡ plain_number why };
+
+    fn from(why: PlainRefusal) -> u32 {
+        match why {
+            PlainRefusal::BadKeys => 1,
+            PlainRefusal::BadSequence => 10,
+            PlainRefusal::LongMessage => 2,
+            PlainRefusal::ShortOutput => 4,
+        }
+    }
+}
+
+impl From<KeyRefusal> for PlainRefusal {
+    ghost use Rattle.plain_sealing.specs.declared.PlainRefusal.TheVariants.{BadKeys};
+
+    ghost from_gives = { λ _ why. why ≡ BadKeys };
+
+    fn from(why: KeyRefusal) -> PlainRefusal {
+        match why {
+            KeyRefusal::BadKeys => PlainRefusal::BadKeys,
         }
     }
 }
 
 // Writes the record of a message from the output's start.
-fn put_record(
-    form: Form,
-    ke: [u8; 16],
-    km: [u8; 16],
-    number: u32,
-    sequence: u64,
-    message: &[u8],
-    out: &mut [u8],
-)
+fn put_record(form: Form, ke: [u8; 16], km: [u8; 16], nonce: Nonce, message: &Text, out: &mut [u8])
     requires proper { Proper form }
-    requires message_len_bound { (length message.now ≤ longest) × (record_size form (length message.now) ≤ length out.old) }
+    requires room { record_size form (length message.now) ≤ length out.old }
     ensures { out.new
-        ≡ put 0 (plain_record form (encrypt ke) (encrypt km) number sequence message.now) out.old }
+        ≡ put 0 (plain_record form (encrypt ke) (encrypt km) nonce.number nonce.sequence message.now) out.old }
 {
     let head = form.head();
-    let end = head + message.len();
-    links::put_head(form, number, sequence, out);
-    ctrmac::crypt(ke, number, sequence, message, out, head);
-    let code = ctrmac::mac(km, number, sequence, &out[head..end]);
-    let size = form.tag;
-    blocks::put_bytes(&code[..size], out, end);
+    let end = head + message.bytes.len();
+    links::put_head(form, nonce, out);
+    ctrmac::crypt(ke, nonce, message, out, head);
+    let code = ctrmac::mac(km, nonce, &Text::of(&out[head..end]));
+    blocks::put_bytes(&code[..form.tag], out, end);
 }
 
-// Seals a message, under keys of 32 bytes: KE, then KM. The record is narrow where `wide` is 0.
+// Seals a message, under keys of 32 bytes: KE, then KM. The record is narrow where `wide` is 0; its length is returned.
+#[tactic(auto, using(links::proofs::Widths::proper_of), unfolding(plain::specs::Entry::plain_answer, links::specs::Links::key_answer))]
 pub fn seal(
     keys: &[u8],
     number: u32,
@@ -69,32 +68,26 @@ pub fn seal(
     sequence: u64,
     message: &[u8],
     out: &mut [u8],
-) -> PlainAnswer
+) -> Result<usize, PlainRefusal>
     ensures result_value { plain_says result
         ≡ plain_answer (form_of (told wide)) keys.now sequence message.now (length out.old) }
     ensures out_after { out.new
         ≡ plain_output (form_of (told wide)) encrypt keys.now number sequence message.now out.old }
 {
-    if keys.len() != 32 {
-        return PlainAnswer::BadKeys;
-    }
-    if sequence == 0 {
-        return PlainAnswer::BadSequence;
-    }
-    let width = Width::told(wide);
-    if width.greatest() < sequence {
-        return PlainAnswer::BadSequence;
+    let (ke, km) = links::halves(keys)?;
+    let width = Width::from(wide);
+    if sequence == 0 || width.greatest() < sequence {
+        return Err(PlainRefusal::BadSequence);
     }
     if links::LONGEST < message.len() {
-        return PlainAnswer::LongMessage;
+        return Err(PlainRefusal::LongMessage);
     }
     let form = width.form();
     let len = message.len() + form.added();
     if out.len() < len {
-        return PlainAnswer::ShortOutput;
+        return Err(PlainRefusal::ShortOutput);
     }
-    let ke = blocks::block_at(keys, 0);
-    let km = blocks::block_at(keys, 16);
-    put_record(form, ke, km, number, sequence, message, out);
-    PlainAnswer::Sealed { len }
+    let nonce = Nonce { number, sequence };
+    put_record(form, ke, km, nonce, &Text::of(message), out);
+    Ok(len)
 }

@@ -6,7 +6,7 @@ ghost use Rattle.std.specs.Prelude.{◌≡◌, ◌≤◌, length};
 ghost use Rattle.calls.specs.Entry.{seal_link};
 
 use links::Sender;
-use sealing::SealAnswer;
+use sealing::Sealed;
 use std::io;
 
 // Seals on the lent link, and prints what came of it.
@@ -20,67 +20,66 @@ fn turn(
     ensures { link.new ≡ seal_link link.old message.now tape.now (length out.old) }
 {
     let done = lent::seal_through(*link, message, tape, out);
-    let answer = done.answer;
-    let next = done.link;
-    *link = next;
-    if let SealAnswer::Sealed { len, used: _ } = answer {
-        show::front(rt, out, len)
-    } else {
-        show::tried(rt, b"", answer.number() as u64)
+    *link = done.link;
+    match done.answer {
+        Ok(Sealed { len, .. }) => show::front(rt, out, len),
+        Err(why) => println!(rt; "{}", u32::from(why)),
     }
 }
 
-// The lengths of message, tape and output.
+// How many bytes of the message, the tape and the output a turn takes.
 #[derive(Clone, Copy)]
-pub struct Lengths {
-    pub message: usize,
-    pub tape: usize,
-    pub out: usize,
+struct Lengths {
+    message: usize,
+    tape: usize,
+    out: usize,
+    ghost message_fits: { message ≤ 257 },
+    ghost tape_fits: { tape ≤ 39232 },
+    ghost out_fits: { out ≤ 280 },
 }
 
 impl Lengths {
     fn of(message: usize, tape: usize, out: usize) -> Lengths
+        requires { (message ≤ 257) × (tape ≤ 39232) × (out ≤ 280) }
         ensures { (result.message ≡ message) × (result.tape ≡ tape) × (result.out ≡ out) }
     {
         Lengths { message, tape, out }
     }
 }
 
-// Those of turn i.
-fn asked(i: usize) -> Lengths
-    ensures { (result.message ≤ 257) × (result.tape ≤ 39232) × (result.out ≤ 280) }
-{
-    match i {
-        0 => Lengths::of(0, 2368, 24),
-        1 => Lengths::of(0, 2367, 24),
-        2 => Lengths::of(1, 4672, 24),
-        3 => Lengths::of(16, 4672, 40),
-        4 => Lengths::of(257, 39232, 280),
-        5 => Lengths::of(17, 6975, 41),
-        6 => Lengths::of(17, 6976, 40),
-        7 => Lengths::of(17, 6976, 41),
-        8 => Lengths::of(257, 0, 0),
-        9 => Lengths::of(20, 39232, 280),
-        10 => Lengths::of(256, 39232, 279),
-        _ => Lengths::of(256, 39232, 280),
-    }
-}
-
 // Turns on a fresh link and, once it is keyed, one after the other.
-fn turns(rt: &impl Print, keys: &[u8], message: &[u8], tape: &[u8]) -> io::Result<()>
-    requires { (257 ≤ length message.now) × (39232 ≤ length tape.now) }
-{
+fn turns(
+    rt: &impl Print,
+    keys: &[u8; 96],
+    message: &[u8; 257],
+    tape: &[u8; 39232],
+) -> io::Result<()> {
     let mut out = [0u8; 280];
     let mut fresh = Sender::fresh();
     turn(rt, &mut fresh, message, tape, &mut out)?;
-    let keyed = fresh.key(0x01020304, 0, keys);
-    let mut link = keyed.link;
-    for i in 0..12 {
-        let n = asked(i);
-        let m = n.message;
-        let t = n.tape;
-        let o = n.out;
-        turn(rt, &mut link, &message[..m], &tape[..t], &mut out[..o])?;
+    let mut link = fresh.key(0x01020304, 0, keys).link;
+    let turns = [
+        Lengths::of(0, 2368, 24),
+        Lengths::of(0, 2367, 24),
+        Lengths::of(1, 4672, 24),
+        Lengths::of(16, 4672, 40),
+        Lengths::of(257, 39232, 280),
+        Lengths::of(17, 6975, 41),
+        Lengths::of(17, 6976, 40),
+        Lengths::of(17, 6976, 41),
+        Lengths::of(257, 0, 0),
+        Lengths::of(20, 39232, 280),
+        Lengths::of(256, 39232, 279),
+        Lengths::of(256, 39232, 280),
+    ];
+    for n in turns {
+        turn(
+            rt,
+            &mut link,
+            &message[..n.message],
+            &tape[..n.tape],
+            &mut out[..n.out],
+        )?;
     }
     Ok(())
 }

@@ -22,28 +22,28 @@ pub fn rasppuce_encrypt_table(key: &[u8], input: &[u8], output: &mut [u8]) -> u3
     ensures value { result ≡ number_of (block_answer key.now input.now output.old) }
     ensures output_after { output.new ≡ block_output encrypt key.now input.now output.old }
 {
-    engines::call(Cipher::EncryptTable, key, input, output).number()
+    answers::code(engines::call(Cipher::EncryptTable, key, input, output))
 }
 
 pub fn rasppuce_encrypt_packed(key: &[u8], input: &[u8], output: &mut [u8]) -> u32
     ensures value { result ≡ number_of (block_answer key.now input.now output.old) }
     ensures output_after { output.new ≡ block_output encrypt key.now input.now output.old }
 {
-    engines::call(Cipher::EncryptPacked, key, input, output).number()
+    answers::code(engines::call(Cipher::EncryptPacked, key, input, output))
 }
 
 pub fn rasppuce_decrypt_table(key: &[u8], input: &[u8], output: &mut [u8]) -> u32
     ensures value { result ≡ number_of (block_answer key.now input.now output.old) }
     ensures output_after { output.new ≡ block_output decrypt key.now input.now output.old }
 {
-    engines::call(Cipher::DecryptTable, key, input, output).number()
+    answers::code(engines::call(Cipher::DecryptTable, key, input, output))
 }
 
 pub fn rasppuce_decrypt_packed(key: &[u8], input: &[u8], output: &mut [u8]) -> u32
     ensures value { result ≡ number_of (block_answer key.now input.now output.old) }
     ensures output_after { output.new ≡ block_output decrypt key.now input.now output.old }
 {
-    engines::call(Cipher::DecryptPacked, key, input, output).number()
+    answers::code(engines::call(Cipher::DecryptPacked, key, input, output))
 }
 
 // ---- the calls on a sending link
@@ -53,7 +53,7 @@ pub fn rasppuce_key_sender(link: &mut [u8], number: u32, wide: u32, keys: &[u8])
     ensures value { result ≡ number_of (sender_keying link.old keys.now) }
     ensures link_after { link.new ≡ keyed_sender link.old number wide keys.now }
 {
-    sending::key(link, number, wide, keys)
+    answers::code(sending::key(link, number, wide, keys))
 }
 
 // Seals a message on shares, with the masks of the tape.
@@ -75,7 +75,7 @@ pub fn rasppuce_seal(
     ensures shares_after { shares.new
         ≡ shares_output link.old message.now tape.now out.old shares.old }
 {
-    sending::seal(link, message, tape, out, shares)
+    answers::code(sending::seal(link, message, tape, out, shares))
 }
 
 // Writes a lane of the sealing that the link would do next.
@@ -94,7 +94,7 @@ pub fn rasppuce_report(
     ensures out_after { out.new
         ≡ report_output (sender_in link.now) message.now tape.now call round lane out.old }
 {
-    sending::report(link, message, tape, call, round, lane, out)
+    answers::code(sending::report(link, message, tape, call, round, lane, out))
 }
 
 // Seals a message plainly, into a narrow record where it is told 0: KE, then KM.
@@ -111,7 +111,7 @@ pub fn rasppuce_seal_plain(
     ensures out_after { out.new
         ≡ plain_output (form_of (told wide)) encrypt keys.now number sequence message.now out.old }
 {
-    plain_sealing::seal(keys, number, wide, sequence, message, out).number()
+    answers::code(plain_sealing::seal(keys, number, wide, sequence, message, out))
 }
 
 // ---- the calls on a receiving link
@@ -121,7 +121,7 @@ pub fn rasppuce_key_receiver(link: &mut [u8], number: u32, wide: u32, keys: &[u8
     ensures value { result ≡ number_of (receiver_keying link.old keys.now) }
     ensures link_after { link.new ≡ keyed_receiver link.old number wide keys.now }
 {
-    receiving::key(link, number, wide, keys)
+    answers::code(receiving::key(link, number, wide, keys))
 }
 
 // Opens a record.
@@ -130,7 +130,7 @@ pub fn rasppuce_open(link: &mut [u8], sealed: &[u8], out: &mut [u8]) -> u32
     ensures link_after { link.new ≡ opened_link link.old sealed.now (length out.old) }
     ensures out_after { out.new ≡ opened_output link.old sealed.now out.old }
 {
-    receiving::open(link, sealed, out)
+    answers::code(receiving::open(link, sealed, out))
 }
 
 // ---- the body of a mark
@@ -140,7 +140,7 @@ pub fn rasppuce_read_body(body: &[u8], values: &mut [u8]) -> u32
     ensures value { result ≡ number_of (values_answer body.now (length values.old)) }
     ensures values_after { values.new ≡ values_output body.now values.old }
 {
-    reading::read_values(body, values)
+    answers::code(reading::read_values(body, values))
 }
 
 // Writes the body of a mark; where `given` is 0 it has no offset.
@@ -154,5 +154,5 @@ pub fn rasppuce_write_body(
     ensures value { result ≡ number_of (write_answer (mark_with seconds fraction given offset) (length out.old)) }
     ensures out_after { out.new ≡ write_output (mark_with seconds fraction given offset) out.old }
 {
-    writing::write_values(seconds, fraction, given, offset, out)
+    answers::code(writing::write_values(seconds, fraction, given, offset, out))
 }

@@ -1,23 +1,12 @@
--- A record passes its test exactly where no cause refuses it; what the test answers is what causes behind it go on from. Assumes nothing.
-use Rattle.prelude.proofs.{◌≡◌, ap, Bool, not, List, [], ℕ, arith, eqb, length, take, eqb-true, ltb-false, not-false, le-ltb}
-use Rattle.answers.specs.Answer.{Answer, done, refused, Cause, first, number_of, NoneOf}
-use Rattle.answers.proofs.First.{Applies, number_at, refused-at, done_none, accepts-none, refused-before, done-before, eq-not}
+-- A record passes its test exactly where no cause refuses it. Assumes nothing.
+use Rattle.prelude.proofs.{◌≡◌, ap, Bool, not, List, [], ℕ, arith, eqb, length, eqb-true, ltb-false, not-false, le-ltb}
+use Rattle.answers.specs.Answer.{done, Cause, number_of, NoneOf}
+use Rattle.answers.proofs.First.{accepts-none, eq-not}
 use Rattle.links.specs.Record.{longest, record_size, usable, link_in}
 use Rattle.links.specs.declared.Form.{Form}
 use Rattle.readable.specs.Readable.{Readable, record_causes, record_answer}
 
 module _ (f : Form) (k : Bool) (n h : ℕ) (r : List ℕ) where
-  -- ---- by the place of the first cause
-
-  pub record-refused : (p : ℕ) → let cs = record_causes f k n h r [] in
-      NoneOf (take p cs) → Applies p cs → record_answer f k n h r ≡ refused (number_at p cs)
-  unfolding record_answer
-  record-refused p = refused-at p (record_causes f k n h r []) _
-
-  pub record-passed : NoneOf (record_causes f k n h r []) → record_answer f k n h r ≡ done []
-  unfolding record_answer
-  record-passed = done_none (record_causes f k n h r []) _
-
   -- ---- none applies exactly where it is readable
 
   pub readable-none : Readable f k n h r → (cs : List Cause) → NoneOf cs → NoneOf (record_causes f k n h r cs)
@@ -38,18 +27,8 @@ module _ (f : Form) (k : Bool) (n h : ℕ) (r : List ℕ) where
         none,
       )
 
-  -- ---- causes behind the test
+  -- ---- what passed its test
 
-  pub refused-unread : (p : ℕ) → record_answer f k n h r ≡ refused p → (cs : List Cause) (a : Answer)
-      → first (record_causes f k n h r cs) a ≡ refused p
+  pub passed-readable : record_answer f k n h r ≡ done [] → Readable f k n h r
   unfolding record_answer
-  refused-unread p e cs a = refused-before p (record_causes f k n h r []) cs [] a e
-
-  module _ (e : record_answer f k n h r ≡ done []) where
-    pub passed_on : (cs : List Cause) (a : Answer) → first (record_causes f k n h r cs) a ≡ first cs a
-    unfolding record_answer
-    passed_on cs a = (done-before (record_causes f k n h r []) cs [] [] a e).1
-
-    pub passed-readable : Readable f k n h r
-    unfolding record_answer
-    passed-readable = (none-readable [] (accepts-none (record_causes f k n h r []) [] tt (ap number_of e))).0
+  passed-readable e = (none-readable [] (accepts-none (record_causes f k n h r []) [] tt (ap number_of e))).0

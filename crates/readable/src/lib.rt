@@ -8,19 +8,18 @@ ghost use Rattle.readable.specs.Tested.{record_number, record_says};
 
 use links::Width;
 
-#[derive(Clone, Copy)]
+#[derive(Clone, Copy, Debug, PartialEq, Eq)]
 pub enum RecordRefusal {
     NotKeyed,
     BadLength,
     OtherLink,
 }
 
-impl RecordRefusal {
-    // The refusal's number.
-    pub fn number(self) -> u32
-        ensures { result ≡ record_number self }
-    {
-        match self {
+impl From<RecordRefusal> for u32 {
+    ghost from_gives = { λ why n. n ≡ record_number why };
+
+    fn from(why: RecordRefusal) -> u32 {
+        match why {
             RecordRefusal::NotKeyed => 20,
             RecordRefusal::BadLength => 7,
             RecordRefusal::OtherLink => 8,
@@ -28,35 +27,26 @@ impl RecordRefusal {
     }
 }
 
-#[derive(Clone, Copy)]
-pub enum RecordTest {
-    Passed,
-    Refused(RecordRefusal),
-}
-
 // Tests a record for the link with this number, keyed or not, of this width, with this highest number accepted.
+#[tactic(auto, unfolding(crate::specs::Readable::record_answer))]
 pub fn test_record(
     width: Width,
     keyed: bool,
     number: u32,
     highest: u64,
     sealed: &[u8],
-) -> RecordTest
+) -> Result<(), RecordRefusal>
     ensures { record_says result ≡ record_answer (form_of width) keyed number highest sealed.now }
 {
     if !links::usable(keyed, width, highest) {
-        return RecordTest::Refused(RecordRefusal::NotKeyed);
+        return Err(RecordRefusal::NotKeyed);
     }
-    let n = sealed.len();
     let added = width.form().added();
-    if n < added {
-        return RecordTest::Refused(RecordRefusal::BadLength);
-    }
-    if links::LONGEST < n - added {
-        return RecordTest::Refused(RecordRefusal::BadLength);
+    if !(added..=added + links::LONGEST).contains(&sealed.len()) {
+        return Err(RecordRefusal::BadLength);
     }
     if blocks::word_at(sealed, 0) != number {
-        return RecordTest::Refused(RecordRefusal::OtherLink);
+        return Err(RecordRefusal::OtherLink);
     }
-    RecordTest::Passed
+    Ok(())
 }

@@ -1,2 +1,2 @@
-pub mod Turns
-pub mod Answers
+pub mod Taken
+pub mod Chunks

@@ -1,14 +1,16 @@
--- The number and the values of each answer of opening. Assumes nothing.
-use Rattle.std.specs.Prelude.{[], ◌∷◌}
-use Rattle.answers.specs.Answer.{Answer, done, refused}
+-- The number of each refusal of opening, and the values of what it returns. Assumes nothing.
+use Rattle.std.specs.Prelude.{[], ◌∷◌, ℕ, Result}
+use Rattle.answers.specs.Answer.{Answer, said}
 use Rattle.readable.specs.Tested.{record_number}
-use Rattle.receiver.specs.declared.OpenAnswer.{OpenAnswer}
-use Rattle.receiver.specs.declared.OpenAnswer.TheVariants.{Opened, Record, ShortOutput, BelowWindow, Repeated, WrongTag}
+use Rattle.receiver.specs.declared.OpenRefusal.{OpenRefusal}
+use Rattle.receiver.specs.declared.OpenRefusal.TheVariants.{Record, ShortOutput, BelowWindow, Repeated, WrongTag}
 
-abbrev pub open_says : OpenAnswer → Answer
-open_says (Opened n) = done (n ∷ [])
-open_says (Record why) = refused (record_number why)
-open_says ShortOutput = refused 4
-open_says BelowWindow = refused 35
-open_says Repeated = refused 22
-open_says WrongTag = refused 9
+abbrev pub open_number : OpenRefusal → ℕ
+open_number (Record why) = record_number why
+open_number ShortOutput = 4
+open_number BelowWindow = 35
+open_number Repeated = 22
+open_number WrongTag = 9
+
+abbrev pub open_says : Result ℕ OpenRefusal → Answer
+open_says = said (λ n. n ∷ []) open_number

@@ -1,20 +1,23 @@
 // The receiving link: what a receiver holds between two calls, its keying, and opening.
 #![tactic(auto)]
 
-ghost use Rattle.std.specs.Prelude.{◌≡◌, ◌≤◌, length};
-ghost use Rattle.blocks.specs.Bytes.{same_bytes, put};
-ghost use Rattle.answers.specs.Answer.{number_of, if_done, output};
+ghost use Rattle.std.specs.Prelude.{◌≡◌, ◌≤◌, [], ◌∷◌, length, IfOk};
+ghost use Rattle.answers.specs.Answer.{said, if_done};
 ghost use Rattle.baksheesh.specs.Baksheesh.{encrypt};
 ghost use Rattle.links.specs.Links.{key_says, key_answer};
-ghost use Rattle.links.specs.Record.{Proper, told, sequence_in, tag_in};
-ghost use Rattle.readable.specs.Readable.{RecordSized};
+ghost use Rattle.links.specs.Record.{told};
+ghost use Rattle.readable.specs.Readable.{record_answer};
+ghost use Rattle.readable.specs.Tested.{record_says};
 ghost use Rattle.opening.specs.Opener.{receiver_keys};
-ghost use Rattle.opening.specs.Open.{message_size, right_tag, message_in, verify_answer, open_answer, open_output};
-ghost use Rattle.receiver.specs.Receivers.{opener_of, receiver_form, fresh_receiver, receiver_of, receiver_after, opened_receiver};
-ghost use Rattle.receiver.specs.Says.{open_says};
+ghost use Rattle.opening.specs.Open.{message_size, open_answer, open_output};
+ghost use Rattle.receiver.specs.Receivers.{opener_of, receiver_form, fresh_receiver, receiver_of, opened_receiver};
+ghost use Rattle.receiver.specs.Says.{open_number, open_says};
 
-use links::{Form, KeyAnswer, Width};
-use readable::{RecordRefusal, RecordTest};
+mod record;
+
+use links::{Answered, KeyRefusal, Nonce, Width};
+use readable::RecordRefusal;
+use record::Record;
 use window::Window;
 
 // The link's number, the window of the sequence numbers accepted, its width, and the keys KE and KM.
@@ -28,16 +31,8 @@ pub struct Receiver {
     pub km: [u8; 16],
 }
 
-#[derive(Clone, Copy)]
-pub struct ReceiverKeying {
-    pub answer: KeyAnswer,
-    pub link: Receiver,
-}
-
-#[derive(Clone, Copy)]
-pub enum OpenAnswer {
-    // The length written.
-    Opened { len: usize },
+#[derive(Clone, Copy, Debug, PartialEq, Eq)]
+pub enum OpenRefusal {
     // The record is refused before its number is looked at.
     Record(RecordRefusal),
     ShortOutput,
@@ -46,117 +41,28 @@ pub enum OpenAnswer {
     WrongTag,
 }
 
-impl OpenAnswer {
-    // 0, or the refusal's number.
-    pub fn number(self) -> u32
-        ensures { result ≡ number_of (open_says self) }
-    {
-        match self {
-            OpenAnswer::Opened { len: _ } => 0,
-            OpenAnswer::Record(why) => why.number(),
-            OpenAnswer::ShortOutput => 4,
-            OpenAnswer::BelowWindow => 35,
-            OpenAnswer::Repeated => 22,
-            OpenAnswer::WrongTag => 9,
+impl From<OpenRefusal> for u32 {
+    ghost from_gives = { λ why n. n ≡ open_number why };
+
+    fn from(why: OpenRefusal) -> u32 {
+        match why {
+            OpenRefusal::Record(why) => why.into(),
+            OpenRefusal::ShortOutput => 4,
+            OpenRefusal::BelowWindow => 35,
+            OpenRefusal::Repeated => 22,
+            OpenRefusal::WrongTag => 9,
         }
     }
 }
 
-#[derive(Clone, Copy)]
-pub struct Opening {
-    pub answer: OpenAnswer,
-    pub link: Receiver,
-}
+impl From<RecordRefusal> for OpenRefusal {
+    ghost use Rattle.receiver.specs.declared.OpenRefusal.TheVariants.{Record};
 
-fn refused(link: Receiver, answer: OpenAnswer) -> Opening
-    ensures { (result.answer ≡ answer) × (result.link ≡ link) }
-{
-    Opening { answer, link }
-}
+    ghost from_gives = { λ why refusal. refusal ≡ Record why };
 
-// Whether a record has its tag.
-fn has_tag(form: Form, link: Receiver, sealed: &[u8], sequence: u64) -> bool
-    requires { Proper form × RecordSized form sealed.now × (sequence ≡ sequence_in form sealed.now) }
-    ensures { result ≡ same_bytes (right_tag form encrypt (opener_of link) sealed.now) (tag_in form sealed.now) }
-{
-    let head = form.head();
-    let end = sealed.len() - form.tag;
-    let km = link.km;
-    let code = ctrmac::mac(km, link.number, sequence, &sealed[head..end]);
-    blocks::same_at(code, form.tag, sealed, end)
-}
-
-// Writes the message of a record.
-fn put_message(form: Form, link: Receiver, sealed: &[u8], sequence: u64, out: &mut [u8])
-    requires proper { Proper form × RecordSized form sealed.now × (sequence ≡ sequence_in form sealed.now) }
-    requires sealed_in_bounds { message_size form sealed.now ≤ length out.old }
-    ensures { out.new ≡ put 0 (message_in form encrypt (opener_of link) sealed.now) out.old }
-{
-    let head = form.head();
-    let end = sealed.len() - form.tag;
-    let ke = link.ke;
-    ctrmac::crypt(ke, link.number, sequence, &sealed[head..end], out, 0);
-}
-
-// Verifies the number and the tag of a record, and opens it; its message has `len` bytes.
-fn verify(
-    form: Form,
-    link: Receiver,
-    sealed: &[u8],
-    sequence: u64,
-    len: usize,
-    out: &mut [u8],
-) -> Opening
-    requires proper { Proper form × RecordSized form sealed.now × (sequence ≡ sequence_in form sealed.now) }
-    requires len_value { (len ≡ message_size form sealed.now) × (len ≤ length out.old) }
-    ensures answer_value { open_says result.answer ≡ verify_answer form encrypt (opener_of link) sealed.now }
-    ensures link_value { result.link
-        ≡ if_done (verify_answer form encrypt (opener_of link) sealed.now)
-        (receiver_after link (sequence_in form sealed.now)) link }
-    ensures out_after { out.new
-        ≡ output (verify_answer form encrypt (opener_of link) sealed.now)
-        (message_in form encrypt (opener_of link) sealed.now) out.old }
-{
-    let window = link.window;
-    if window.below(sequence) {
-        return refused(link, OpenAnswer::BelowWindow);
+    fn from(why: RecordRefusal) -> OpenRefusal {
+        OpenRefusal::Record(why)
     }
-    if window.repeated(sequence) {
-        return refused(link, OpenAnswer::Repeated);
-    }
-    if !has_tag(form, link, sealed, sequence) {
-        return refused(link, OpenAnswer::WrongTag);
-    }
-    put_message(form, link, sealed, sequence, out);
-    let mut next = link;
-    next.window = window.after(sequence);
-    Opening {
-        answer: OpenAnswer::Opened { len },
-        link: next,
-    }
-}
-
-// Opens a record of the link's form, and hands the link back: its window moved where the record was accepted.
-fn open_in(form: Form, link: Receiver, sealed: &[u8], out: &mut [u8]) -> Opening
-    requires { form ≡ receiver_form link }
-    ensures answer_value { open_says result.answer ≡ open_answer form encrypt (opener_of link) sealed.now (length out.old) }
-    ensures link_value { result.link
-        ≡ if_done (open_answer form encrypt (opener_of link) sealed.now (length out.old))
-        (receiver_after link (sequence_in form sealed.now)) link }
-    ensures out_after { out.new ≡ open_output form encrypt (opener_of link) sealed.now out.old }
-{
-    let window = link.window;
-    let width = link.width;
-    let test = readable::test_record(width, link.keyed, link.number, window.highest, sealed);
-    if let RecordTest::Refused(why) = test {
-        return refused(link, OpenAnswer::Record(why));
-    }
-    let len = sealed.len() - form.added();
-    if out.len() < len {
-        return refused(link, OpenAnswer::ShortOutput);
-    }
-    let sequence = blocks::number_at(sealed, links::NUMBER, form.sequence);
-    verify(form, link, sealed, sequence, len, out)
 }
 
 impl Receiver {
@@ -175,41 +81,104 @@ impl Receiver {
     }
 
     // Keys the link, narrow where it is told 0: KE, then KM.
-    pub fn key(self, number: u32, wide: u32, keys: &[u8]) -> ReceiverKeying
+    pub fn key(self, number: u32, wide: u32, keys: &[u8]) -> Answered<Receiver, (), KeyRefusal>
         ensures answer_value { key_says result.answer ≡ key_answer receiver_keys keys.now }
         ensures link_value { result.link
             ≡ if_done (key_answer receiver_keys keys.now) (receiver_of number (told wide) keys.now) self }
     {
-        if keys.len() != 32 {
-            return ReceiverKeying {
-                answer: KeyAnswer::BadKeys,
+        match links::halves(keys) {
+            Ok(both) => {
+                let (ke, km) = both;
+                Answered {
+                    answer: Ok(()),
+                    link: Receiver {
+                        keyed: true,
+                        number,
+                        window: Window::empty(),
+                        width: Width::from(wide),
+                        ke,
+                        km,
+                    },
+                }
+            }
+            Err(why) => Answered {
+                answer: Err(why),
                 link: self,
-            };
-        }
-        let ke = blocks::block_at(keys, 0);
-        let km = blocks::block_at(keys, 16);
-        ReceiverKeying {
-            answer: KeyAnswer::Keyed,
-            link: Receiver {
-                keyed: true,
-                number,
-                window: Window::empty(),
-                width: Width::told(wide),
-                ke,
-                km,
             },
         }
     }
 
-    // Opens a record, and hands the link back: its window moved where the record was accepted.
-    pub fn open(self, sealed: &[u8], out: &mut [u8]) -> Opening
+    // The record that the bytes are, of the link's form and with its number.
+    fn read<'a>(self, sealed: &'a [u8]) -> Result<Record<'a>, RecordRefusal>
+        ensures answer_value { record_says result
+            ≡ record_answer (receiver_form self) self.keyed self.number self.window.highest sealed.now }
+        ensures record_value { IfOk result (λ r. (r.form ≡ receiver_form self) × (r.bytes.now ≡ sealed.now)) }
+    {
+        let width = self.width;
+        readable::test_record(width, self.keyed, self.number, self.window.highest, sealed)?;
+        Ok(Record {
+            form: width.form(),
+            bytes: sealed,
+        })
+    }
+
+    // The record that the bytes are, where it may be opened, with room for so many bytes: all that opening tests.
+    #[tactic(auto, unfolding(opening::specs::Open::open_answer, readable::specs::Readable::record_answer))]
+    fn accept<'a>(self, sealed: &'a [u8], room: usize) -> Result<Record<'a>, OpenRefusal>
+        ensures answer_value { said (λ r. message_size r.form r.bytes.now ∷ []) open_number result
+            ≡ open_answer (receiver_form self) encrypt (opener_of self) sealed.now room }
+        ensures record_value { IfOk result (λ r. (r.form ≡ receiver_form self) × (r.bytes.now ≡ sealed.now)) }
+        ensures room { IfOk result (λ r. message_size r.form r.bytes.now ≤ room) }
+    {
+        let record = self.read(sealed)?;
+        if room < record.message_len() {
+            return Err(OpenRefusal::ShortOutput);
+        }
+        let sequence = record.sequence();
+        if self.window.below(sequence) {
+            return Err(OpenRefusal::BelowWindow);
+        }
+        if self.window.repeated(sequence) {
+            return Err(OpenRefusal::Repeated);
+        }
+        let nonce = Nonce {
+            number: self.number,
+            sequence,
+        };
+        if !record.has_tag(ctrmac::mac(self.km, nonce, &record.text())) {
+            return Err(OpenRefusal::WrongTag);
+        }
+        Ok(record)
+    }
+
+    // Opens a record, and hands the link back: its window moved where the record was accepted. The message's length is returned.
+    pub fn open(self, sealed: &[u8], out: &mut [u8]) -> Answered<Receiver, usize, OpenRefusal>
         ensures answer_value { open_says result.answer
             ≡ open_answer (receiver_form self) encrypt (opener_of self) sealed.now (length out.old) }
         ensures link_value { result.link ≡ opened_receiver encrypt self sealed.now (length out.old) }
         ensures out_after { out.new
             ≡ open_output (receiver_form self) encrypt (opener_of self) sealed.now out.old }
     {
-        let width = self.width;
-        open_in(width.form(), self, sealed, out)
+        match self.accept(sealed, out.len()) {
+            Ok(record) => {
+                let sequence = record.sequence();
+                let nonce = Nonce {
+                    number: self.number,
+                    sequence,
+                };
+                ctrmac::crypt(self.ke, nonce, &record.text(), out, 0);
+                Answered {
+                    answer: Ok(record.message_len()),
+                    link: Receiver {
+                        window: self.window.after(sequence),
+                        ..self
+                    },
+                }
+            }
+            Err(why) => Answered {
+                answer: Err(why),
+                link: self,
+            },
+        }
     }
 }

@@ -1,4 +1,3 @@
 pub mod Stored
-pub mod Opening
 pub mod Exactly
 pub mod History

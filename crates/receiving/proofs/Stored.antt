@@ -1,49 +1,14 @@
 -- A receiving link's bytes say that link, bytes whose flag and width are 0 or 1 are those of the link that they say, and what bytes say
 -- can be stored; when it counts as keyed. Assumes nothing.
-use Rattle.prelude.proofs.{◌≡◌, refl, ◌∙◌, ◌↔◌, true, false, List, ℕ, ◌+◌, ◌≤◌, arith, length, get_or, length-append}
+use Rattle.prelude.proofs.{◌≡◌, refl, ◌↔◌, true, List, ℕ, ◌≤◌, arith, length, get_or}
 use Rattle.blocks.specs.Bytes.{Bytes}
-use Rattle.blocks.proofs.Numbers.{big_endian-length}
-use Rattle.links.specs.{Record.usable, declared.Width.Width}
-use Rattle.layout.specs.{Layout.sound, Keyed.SaysKeyed}
-use Rattle.layout.proofs.{Kind.Link, Kind.said, Kind.stored, Kind.of-said, SaidKeyed.said-keyed}
-use Rattle.receiver.specs.{Receivers.fresh_receiver, Receivers.receiver_form, declared.Receiver.Receiver}
-use Rattle.receiving.specs.Stored.{word_size, width_at, receiver_size, receiver_at, receiver_in, tail_of, receiver_bytes, Storable}
-
--- ---- read
-
-pub receiver-in : (b : List ℕ) (x : Receiver) → sound receiver_size width_at b ≡ true → x ≡ receiver_at b → x ≡ receiver_in b
-receiver-in b x h e = e ∙ simp h
-
-pub no-receiver : (b : List ℕ) → sound receiver_size width_at b ≡ false → fresh_receiver ≡ receiver_in b
-no-receiver b h = simp h
-
--- ---- the tail's length
-
-pub tail-length : (word : ℕ) (w : Width) → length (tail_of word w) ≡ word_size + 1
-tail-length word w = simp (length-append, big_endian-length)
+use Rattle.links.specs.{Record.usable}
+use Rattle.layout.specs.{Keyed.SaysKeyed}
+use Rattle.layout.proofs.{Kind.said, Kind.stored, Kind.of-said, SaidKeyed.said-keyed}
+use Rattle.receiver.specs.{Receivers.receiver_form, declared.Receiver.Receiver}
+use Rattle.receiving.specs.Stored.{width_at, receiver_size, receiver_in, receiver_bytes, Storable, held, holding}
 
 -- ---- as a link of any kind: keys of 16 bytes and a word of 8
-
-abbrev held : Receiver → Link
-held x = record {
-  keyed = x.keyed;
-  number = x.number;
-  last = x.window.highest;
-  word = x.window.accepted;
-  width = x.width;
-  ke = x.ke;
-  km = x.km;
-}
-
-abbrev holding : Link → Receiver
-holding l = record {
-  keyed = l.keyed;
-  number = l.number;
-  window = record { highest = l.last; accepted = l.word };
-  width = l.width;
-  ke = l.ke;
-  km = l.km;
-}
 
 -- stored and read
 pub receiver-said : (x : Receiver) → Storable x → receiver_in (receiver_bytes x) ≡ x

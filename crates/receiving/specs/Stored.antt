@@ -4,6 +4,7 @@ use Rattle.blocks.specs.Bytes.{big_endian, value, part}
 use Rattle.links.specs.declared.Width.{Width}
 use Rattle.layout.specs.Layout.{last_size, keys_at, link_size, link_bytes, keyed_in, number_in, last_in, keys_in}
 use Rattle.layout.specs.Layout.{width_byte, width_in, sound}
+use Rattle.layout.specs.declared.Fields.{Fields}
 use Rattle.opening.specs.Opener.{receiver_keys}
 use Rattle.opening.specs.Exactly.{Formed}
 use Rattle.receiver.specs.Receivers.{opener_of, fresh_receiver}
@@ -50,3 +51,25 @@ pub record Storable (x : Receiver) : Type 0 where
   pub formed : Formed (opener_of x)
   pub highest : x.window.highest < 256 ^ last_size
   pub word : x.window.accepted < 256 ^ word_size
+
+-- as a link of any kind, with keys of 16 bytes and the window's word: what one holds, and the link that holds it
+abbrev pub held : Receiver → Fields 16
+held x = record {
+  keyed = x.keyed;
+  number = x.number;
+  last = x.window.highest;
+  word = x.window.accepted;
+  width = x.width;
+  ke = x.ke;
+  km = x.km;
+}
+
+abbrev pub holding : Fields 16 → Receiver
+holding f = record {
+  keyed = f.keyed;
+  number = f.number;
+  window = record { highest = f.last; accepted = f.word };
+  width = f.width;
+  ke = f.ke;
+  km = f.km;
+}

@@ -2,33 +2,51 @@
 #![tactic(auto)]
 
 ghost use Rattle.std.specs.Prelude.{◌≡◌, length};
-ghost use Rattle.answers.specs.Answer.{number_of};
 ghost use Rattle.calls.specs.Entry.{report_answer, report_output};
-ghost use Rattle.reporting.specs.Says.{report_says};
+ghost use Rattle.reporting.specs.Says.{report_number, report_says};
 
-use links::Sender;
+use links::{Nonce, Sender, Text};
 use outgoing::lane_of;
 use path::{call_count, run};
-use sealable::{InputRefusal, InputTest, test_inputs};
+use sealable::{InputRefusal, test_inputs};
 use shares::PAIRS;
-use walks::{LaneRefusal, LaneTest, Watch, test_lane};
+use walks::{LaneRefusal, Watch, test_lane};
 
-#[derive(Clone, Copy)]
-pub enum ReportAnswer {
-    Shown,
+// Why a report is refused.
+#[derive(Clone, Copy, Debug, PartialEq, Eq)]
+pub enum ReportRefusal {
     Inputs(InputRefusal),
     Lane(LaneRefusal),
 }
 
-impl ReportAnswer {
-    // 0, or the refusal's number.
-    pub fn number(self) -> u32
-        ensures { result ≡ number_of (report_says self) }
-    {
-        match self {
-            ReportAnswer::Shown => 0,
-            ReportAnswer::Inputs(why) => why.number(),
-            ReportAnswer::Lane(why) => why.number(),
+impl From<InputRefusal> for ReportRefusal {
+    ghost use Rattle.reporting.specs.declared.ReportRefusal.TheVariants.{Inputs};
+
+    ghost from_gives = { λ why refusal. refusal ≡ Inputs why };
+
+    fn from(why: InputRefusal) -> ReportRefusal {
+        ReportRefusal::Inputs(why)
+    }
+}
+
+impl From<LaneRefusal> for ReportRefusal {
+    ghost use Rattle.reporting.specs.declared.ReportRefusal.TheVariants.{Lane};
+
+    ghost from_gives = { λ why refusal. refusal ≡ Lane why };
+
+    fn from(why: LaneRefusal) -> ReportRefusal {
+        ReportRefusal::Lane(why)
+    }
+}
+
+// The refusal's number.
+impl From<ReportRefusal> for u32 {
+    ghost from_gives = { λ why n. n ≡ report_number why };
+
+    fn from(why: ReportRefusal) -> u32 {
+        match why {
+            ReportRefusal::Inputs(why) => why.into(),
+            ReportRefusal::Lane(why) => why.into(),
         }
     }
 }
@@ -42,39 +60,26 @@ pub fn report(
     round: u32,
     lane: u32,
     out: &mut [u8],
-) -> ReportAnswer
+) -> Result<(), ReportRefusal>
     ensures result_value { report_says result
         ≡ report_answer link message.now tape.now call round lane (length out.old) }
     ensures out_after { out.new
         ≡ report_output link message.now tape.now call round lane out.old }
 {
-    let inputs = test_inputs(link, message, tape);
-    if let InputTest::Refused(why) = inputs {
-        return ReportAnswer::Inputs(why);
-    }
+    test_inputs(link, message, tape)?;
     let calls = call_count(message.len());
-    let tested = test_lane(calls, PAIRS, call, round, lane, out.len());
-    if let LaneTest::Refused(why) = tested {
-        return ReportAnswer::Lane(why);
-    }
-    let ke = link.ke;
-    let km = link.km;
-    let mut outs = [0u8; 768];
+    test_lane(calls, PAIRS, call, round, lane, out.len())?;
+    let nonce = Nonce {
+        number: link.number,
+        sequence: link.last + 1,
+    };
     let watch = Watch {
         call: call as usize,
         pair: round as usize,
     };
-    let w = run(
-        link.number,
-        link.last + 1,
-        ke,
-        km,
-        message,
-        tape,
-        watch,
-        &mut outs,
-    );
-    let seen = w.seen;
-    blocks::put_bytes(&lane_of(seen, lane), out, 0);
-    ReportAnswer::Shown
+    let text = Text::of(message);
+    let mut outs = [[0; 48]; 16];
+    let walk = run(nonce, link.ke, link.km, &text, tape, watch, &mut outs);
+    blocks::put_bytes(&lane_of(walk.seen, lane), out, 0);
+    Ok(())
 }

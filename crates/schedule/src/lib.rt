@@ -6,15 +6,12 @@ ghost use Rattle.blocks.specs.Bytes.{◌⊕◌};
 ghost use Rattle.baksheesh.specs.Baksheesh.{rounds, constant, rotated};
 
 use baksheesh::ROUNDS;
+use std::array::from_fn;
 
 pub fn add(s: [u8; 16], t: [u8; 16]) -> [u8; 16]
     ensures { result ≡ s ⊕ t }
 {
-    let mut r = s;
-    for i in 0..16 {
-        r[i] = s[i] ^ t[i];
-    }
-    r
+    from_fn(|i| s[i] ^ t[i])
 }
 
 const CONSTANTS: [u8; ROUNDS] = *b"\
@@ -40,10 +37,8 @@ pub fn rotate(k: [u8; 16], n: usize) -> [u8; 16]
     requires { (n < 128) × (0 < n % 8) }
     ensures { result ≡ rotated n k }
 {
-    let mut r = k;
-    for i in 0..16 {
+    from_fn(|i| {
         let j = i + 16 - n / 8;
-        r[i] = k[j % 16] >> n % 8 ^ k[(j + 15) % 16] << 8 - n % 8;
-    }
-    r
+        k[j % 16] >> n % 8 ^ k[(j + 15) % 16] << 8 - n % 8
+    })
 }

@@ -10,7 +10,7 @@ use links::{LONGEST, Sender, usable};
 use path::tape_need;
 
 // Why a sealing cannot be done.
-#[derive(Clone, Copy)]
+#[derive(Clone, Copy, Debug, PartialEq, Eq)]
 pub enum InputRefusal {
     NotKeyed,
     NumbersUsed,
@@ -18,12 +18,12 @@ pub enum InputRefusal {
     ShortTape,
 }
 
-impl InputRefusal {
-    // The refusal's number.
-    pub fn number(self) -> u32
-        ensures { result ≡ input_number self }
-    {
-        match self {
+// The refusal's number.
+impl From<InputRefusal> for u32 {
+    ghost from_gives = { λ why n. n ≡ input_number why };
+
+    fn from(why: InputRefusal) -> u32 {
+        match why {
             InputRefusal::NotKeyed => 20,
             InputRefusal::NumbersUsed => 21,
             InputRefusal::LongMessage => 2,
@@ -32,29 +32,23 @@ impl InputRefusal {
     }
 }
 
-#[derive(Clone, Copy)]
-pub enum InputTest {
-    Passed,
-    Refused(InputRefusal),
-}
-
 // Whether a message can be sealed on a link with a tape, as far as these tell.
-pub fn test_inputs(link: Sender, message: &[u8], tape: &[u8]) -> InputTest
+pub fn test_inputs(link: Sender, message: &[u8], tape: &[u8]) -> Result<(), InputRefusal>
     ensures { input_says result ≡ first (input_causes link message.now tape.now []) (done []) }
 {
     let width = link.width;
     if !usable(link.keyed, width, link.last) {
-        return InputTest::Refused(InputRefusal::NotKeyed);
+        return Err(InputRefusal::NotKeyed);
     }
     if link.last == width.greatest() {
-        return InputTest::Refused(InputRefusal::NumbersUsed);
+        return Err(InputRefusal::NumbersUsed);
     }
     let n = message.len();
     if LONGEST < n {
-        return InputTest::Refused(InputRefusal::LongMessage);
+        return Err(InputRefusal::LongMessage);
     }
     if tape.len() < tape_need(n) {
-        return InputTest::Refused(InputRefusal::ShortTape);
+        return Err(InputRefusal::ShortTape);
     }
-    InputTest::Passed
+    Ok(())
 }

@@ -1,2 +1,2 @@
 pub mod Answers
-pub mod Sealed
+pub mod Record

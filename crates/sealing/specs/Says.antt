@@ -1,11 +1,14 @@
--- The number and the values of each answer of shared sealing. Assumes nothing.
-use Rattle.std.specs.Prelude.{[], ◌∷◌}
-use Rattle.answers.specs.Answer.{Answer, done, refused}
+-- The number of each refusal of shared sealing, and what it says. Assumes nothing.
+use Rattle.std.specs.Prelude.{[], ◌∷◌, ℕ, Result}
+use Rattle.answers.specs.Answer.{Answer, said}
 use Rattle.sealable.specs.Tested.{input_number}
-use Rattle.sealing.specs.declared.SealAnswer.{SealAnswer}
-use Rattle.sealing.specs.declared.SealAnswer.TheVariants.{Sealed, Inputs, ShortOutput}
+use Rattle.sealing.specs.declared.Sealed.{Sealed}
+use Rattle.sealing.specs.declared.SealRefusal.{SealRefusal}
+use Rattle.sealing.specs.declared.SealRefusal.TheVariants.{Inputs, ShortOutput}
 
-abbrev pub seal_says : SealAnswer → Answer
-seal_says (Sealed n used) = done (n ∷ used ∷ [])
-seal_says (Inputs w) = refused (input_number w)
-seal_says ShortOutput = refused 4
+abbrev pub seal_number : SealRefusal → ℕ
+seal_number (Inputs w) = input_number w
+seal_number ShortOutput = 4
+
+abbrev pub seal_says : Result Sealed SealRefusal → Answer
+seal_says = said (λ s. s.len ∷ s.used ∷ []) seal_number

@@ -1,35 +1,50 @@
 // Shared sealing.
 #![tactic(auto)]
 
-ghost use Rattle.std.specs.Prelude.{◌≡◌, length, replicate};
-ghost use Rattle.answers.specs.Answer.{number_of};
+ghost use Rattle.std.specs.Prelude.{◌≡◌, length, IfOk, IfErr};
+ghost use Rattle.answers.specs.Answer.{refused};
 ghost use Rattle.calls.specs.Entry.{seal_answer, seal_link, seal_shares, seal_output};
-ghost use Rattle.sealing.specs.Says.{seal_says};
+ghost use Rattle.sealing.specs.Says.{seal_number, seal_says};
 
-use links::Sender;
+use links::{Nonce, Sender, Text};
 use outgoing::put_record;
 use path::run;
-use sealable::{InputRefusal, InputTest, test_inputs};
+use sealable::{InputRefusal, test_inputs};
 use shares::unpack_shares;
 use walks::Watch;
 
-#[derive(Clone, Copy)]
-pub enum SealAnswer {
-    // The length written, and the tape bytes read.
-    Sealed { len: usize, used: usize },
+// The length written, and the tape bytes read.
+#[derive(Clone, Copy, Debug, PartialEq, Eq)]
+pub struct Sealed {
+    pub len: usize,
+    pub used: usize,
+}
+
+// Why a sealing is refused.
+#[derive(Clone, Copy, Debug, PartialEq, Eq)]
+pub enum SealRefusal {
     Inputs(InputRefusal),
     ShortOutput,
 }
 
-impl SealAnswer {
-    // 0, or the refusal's number.
-    pub fn number(self) -> u32
-        ensures { result ≡ number_of (seal_says self) }
-    {
-        match self {
-            SealAnswer::Sealed { len: _, used: _ } => 0,
-            SealAnswer::Inputs(why) => why.number(),
-            SealAnswer::ShortOutput => 4,
+impl From<InputRefusal> for SealRefusal {
+    ghost use Rattle.sealing.specs.declared.SealRefusal.TheVariants.{Inputs};
+
+    ghost from_gives = { λ why refusal. refusal ≡ Inputs why };
+
+    fn from(why: InputRefusal) -> SealRefusal {
+        SealRefusal::Inputs(why)
+    }
+}
+
+// The refusal's number.
+impl From<SealRefusal> for u32 {
+    ghost from_gives = { λ why n. n ≡ seal_number why };
+
+    fn from(why: SealRefusal) -> u32 {
+        match why {
+            SealRefusal::Inputs(why) => why.into(),
+            SealRefusal::ShortOutput => 4,
         }
     }
 }
@@ -37,19 +52,54 @@ impl SealAnswer {
 // The tag's three shares stand one behind the other; zeros where the sealing is refused.
 #[derive(Clone, Copy)]
 pub struct Sealing {
-    pub answer: SealAnswer,
+    pub answer: Result<Sealed, SealRefusal>,
     pub link: Sender,
     pub shares: [u8; 48],
 }
 
-fn refused(link: Sender, answer: SealAnswer) -> Sealing
-    ensures { (result.answer ≡ answer) × (result.link ≡ link) × (result.shares ≡ replicate 48 0) }
+// Seals on the link's next number, unless that is refused.
+#[tactic(auto, using(links::proofs::Widths::proper_of))]
+fn try_seal(
+    link: Sender,
+    message: &[u8],
+    tape: &[u8],
+    out: &mut [u8],
+) -> Result<Sealing, SealRefusal>
+    ensures sealed { IfOk result (λ s.
+        (seal_says s.answer ≡ seal_answer link message.now tape.now (length out.old))
+        × (s.link ≡ seal_link link message.now tape.now (length out.old))
+        × (s.shares ≡ seal_shares link message.now tape.now (length out.old))) }
+    ensures refused { IfErr result (λ e.
+        seal_answer link message.now tape.now (length out.old) ≡ refused (seal_number e)) }
+    ensures out_after { out.new ≡ seal_output link message.now tape.now out.old }
 {
-    Sealing {
-        answer,
-        link,
-        shares: [0; 48],
+    test_inputs(link, message, tape)?;
+    let form = link.width.form();
+    let len = message.len() + form.added();
+    if out.len() < len {
+        return Err(SealRefusal::ShortOutput);
     }
+    let nonce = Nonce {
+        number: link.number,
+        sequence: link.last + 1,
+    };
+    let text = Text::of(message);
+    let watch = Watch { call: 1, pair: 1 };
+    let mut outs = [[0; 48]; 16];
+    let walk = run(nonce, link.ke, link.km, &text, tape, watch, &mut outs);
+    let shares = unpack_shares(walk.out);
+    put_record(form, nonce, &text, &outs, shares, out);
+    Ok(Sealing {
+        answer: Ok(Sealed {
+            len,
+            used: walk.tape.used,
+        }),
+        link: Sender {
+            last: nonce.sequence,
+            ..link
+        },
+        shares,
+    })
 }
 
 // Seals a message on the link's next number, and hands the link back: advanced where the message was sealed.
@@ -60,39 +110,12 @@ pub fn seal(link: Sender, message: &[u8], tape: &[u8], out: &mut [u8]) -> Sealin
     ensures shares_value { result.shares ≡ seal_shares link message.now tape.now (length out.old) }
     ensures out_after { out.new ≡ seal_output link message.now tape.now out.old }
 {
-    let tested = test_inputs(link, message, tape);
-    if let InputTest::Refused(why) = tested {
-        return refused(link, SealAnswer::Inputs(why));
-    }
-    let width = link.width;
-    let form = width.form();
-    let len = message.len() + form.added();
-    if out.len() < len {
-        return refused(link, SealAnswer::ShortOutput);
-    }
-    let sequence = link.last + 1;
-    let ke = link.ke;
-    let km = link.km;
-    let mut outs = [0u8; 768];
-    let watch = Watch { call: 1, pair: 1 };
-    let w = run(
-        link.number,
-        sequence,
-        ke,
-        km,
-        message,
-        tape,
-        watch,
-        &mut outs,
-    );
-    let tag = w.out;
-    let shares = unpack_shares(tag);
-    put_record(form, link.number, sequence, message, &outs, shares, out);
-    let mut next = link;
-    next.last = sequence;
-    Sealing {
-        answer: SealAnswer::Sealed { len, used: w.used },
-        link: next,
-        shares,
+    match try_seal(link, message, tape, out) {
+        Ok(sealing) => sealing,
+        Err(why) => Sealing {
+            answer: Err(why),
+            link,
+            shares: [0; 48],
+        },
     }
 }

@@ -1,5 +1,4 @@
 pub mod Stored
-pub mod Sealing
 pub mod Accepted
 pub mod Total
 pub mod Right

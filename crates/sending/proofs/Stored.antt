@@ -1,36 +1,14 @@
 -- A sending link's bytes say that link, bytes whose flag and width are 0 or 1 are those of the link that they say, and what bytes say is
 -- formed; when it counts as keyed. Assumes nothing.
-use Rattle.prelude.proofs.{◌≡◌, refl, ◌∙◌, ◌↔◌, true, false, List, ℕ, ◌^◌, ◌≤◌, ◌<◌, arith, length, get_or}
+use Rattle.prelude.proofs.{◌≡◌, refl, ◌↔◌, true, List, ℕ, ◌^◌, ◌≤◌, ◌<◌, arith, length, get_or}
 use Rattle.blocks.specs.Bytes.{Bytes, big_endian, value}
-use Rattle.links.specs.{Record.number_size, Record.usable, Links.fresh_sender, Links.sender_form, declared.Sender.Sender}
-use Rattle.layout.specs.{Layout.last_size, Layout.sound, Keyed.SaysKeyed}
-use Rattle.layout.proofs.{Kind.Link, Kind.said, Kind.stored, Kind.of-said, SaidKeyed.said-keyed}
+use Rattle.links.specs.{Record.number_size, Record.usable, Links.sender_form, declared.Sender.Sender}
+use Rattle.layout.specs.{Layout.last_size, Keyed.SaysKeyed}
+use Rattle.layout.proofs.{Kind.said, Kind.stored, Kind.of-said, SaidKeyed.said-keyed}
 use Rattle.calls.specs.Demand.{Formed}
-use Rattle.sending.specs.Stored.{width_at, sender_size, sender_at, sender_in, sender_bytes}
-
--- ---- read
-
-pub sender-in : (b : List ℕ) (x : Sender) → sound sender_size width_at b ≡ true → x ≡ sender_at b → x ≡ sender_in b
-sender-in b x h e = e ∙ simp h
-
-pub no-sender : (b : List ℕ) → sound sender_size width_at b ≡ false → fresh_sender ≡ sender_in b
-no-sender b h = simp h
+use Rattle.sending.specs.Stored.{width_at, sender_size, sender_in, sender_bytes, held, holding}
 
 -- ---- as a link of any kind: keys of 48 bytes and no word
-
-abbrev held : Sender → Link
-held x = record {
-  keyed = x.keyed;
-  number = x.number;
-  last = x.last;
-  word = 0;
-  width = x.width;
-  ke = x.ke;
-  km = x.km;
-}
-
-abbrev holding : Link → Sender
-holding l = record { keyed = l.keyed; number = l.number; last = l.last; width = l.width; ke = l.ke; km = l.km }
 
 -- stored and read
 pub sender-said : (x : Sender) → x.number < 256 ^ number_size → x.last < 256 ^ last_size → length x.ke ≡ 48 → length x.km ≡ 48

@@ -4,6 +4,7 @@ use Rattle.links.specs.Links.{sender_keys, fresh_sender}
 use Rattle.links.specs.declared.Sender.{Sender}
 use Rattle.layout.specs.Layout.{keys_at, link_size, link_bytes, keyed_in, number_in, last_in, keys_in}
 use Rattle.layout.specs.Layout.{width_byte, width_in, sound}
+use Rattle.layout.specs.declared.Fields.{Fields}
 
 -- where the width stands, the link's tail
 abbrev pub width_at : ℕ
@@ -29,3 +30,18 @@ sender_in b = cond (sound sender_size width_at b) (sender_at b) fresh_sender
 -- the bytes that say a link
 abbrev pub sender_bytes : Sender → List ℕ
 sender_bytes x = link_bytes x.keyed x.number x.last x.ke x.km (width_byte x.width ∷ [])
+
+-- as a link of any kind, with keys of 48 bytes and no word: what one holds, and the link that holds it
+abbrev pub held : Sender → Fields 48
+held x = record {
+  keyed = x.keyed;
+  number = x.number;
+  last = x.last;
+  word = 0;
+  width = x.width;
+  ke = x.ke;
+  km = x.km;
+}
+
+abbrev pub holding : Fields 48 → Sender
+holding f = record { keyed = f.keyed; number = f.number; last = f.last; width = f.width; ke = f.ke; km = f.km }

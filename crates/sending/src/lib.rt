@@ -1,22 +1,109 @@
-// The calls on a sending link in its bytes: each returns 0 or the refusal's number.
+// The calls on a sending link in its bytes.
 #![tactic(auto)]
 
-ghost use Rattle.std.specs.Prelude.{◌≡◌, cond, ◌++◌, ◌≤◌, ltb, length, get_or};
+ghost use Rattle.std.specs.Prelude.{◌≡◌, ◌++◌, ◌≤◌, [], refl, length};
+ghost use Rattle.std.proofs.Common.{rules};
 ghost use Rattle.blocks.specs.Bytes.{big_endian, put};
-ghost use Rattle.answers.specs.Answer.{number_of, values_of};
+ghost use Rattle.answers.specs.Answer.{said};
+ghost use Rattle.links.specs.Links.{key_says};
 ghost use Rattle.calls.specs.Entry.{report_answer, report_output};
-ghost use Rattle.sealing.specs.Says.{seal_says};
-ghost use Rattle.sending.specs.Stored.{sender_size, sender_in, sender_bytes};
+ghost use Rattle.sealing.specs.Says.{seal_number};
+ghost use Rattle.reporting.specs.Says.{report_says};
+ghost use Rattle.sending.specs.Stored.{sender_size, sender_in, held, holding};
 ghost use Rattle.sending.specs.Calls.{sender_keying, keyed_sender};
 ghost use Rattle.sending.specs.Calls.{count_size, shares_size, sealed_answer, sealed_link, record_output, shares_output};
 
-use links::Sender;
-use sealing::SealAnswer;
+use layout::{Fields, Stored};
+use links::{KeyRefusal, Sender};
+use reporting::ReportRefusal;
+use sealable::test_inputs;
+use sealing::{SealRefusal, Sealed};
 
-// Where the width stands, and the bytes of a link.
-const WIDTH_AT: usize = layout::KEYS_AT + 96;
+// ---- the link
 
-const SIZE: usize = WIDTH_AT + 1;
+// Sending links in bytes, with three shares of each key and no word.
+pub struct SenderBytes;
+
+impl Stored<48> for SenderBytes {
+    type Link = Sender;
+
+    ghost WORD = { 0 };
+
+    ghost SIZE = { sender_size };
+
+    ghost held = { held };
+
+    ghost holding = { holding };
+
+    const WORD: usize = 0;
+
+    const SIZE: usize = 110;
+
+    fn held(link: Sender) -> Fields<48> {
+        let Sender {
+            keyed,
+            number,
+            last,
+            width,
+            ke,
+            km,
+        } = link;
+        Fields {
+            keyed,
+            number,
+            last,
+            word: 0,
+            width,
+            ke,
+            km,
+        }
+    }
+
+    fn holding(fields: &Fields<48>) -> Sender {
+        let Fields {
+            keyed,
+            number,
+            last,
+            width,
+            ke,
+            km,
+            ..
+        } = *fields;
+        Sender {
+            keyed,
+            number,
+            last,
+            width,
+            ke,
+            km,
+        }
+    }
+
+    fn keyed(number: u32, wide: u32, keys: &[u8]) -> Result<Sender, KeyRefusal> {
+        let keying = Sender::fresh().key(number, wide, keys);
+        keying.answer?;
+        Ok(keying.link)
+    }
+
+    ghost short = { Prim.search rules };
+
+    ghost sized = { refl };
+
+    ghost same = { λ _. refl };
+}
+
+// Keys the link, narrow where it is told 0: three shares of KE, then three of KM.
+// A frame of its own: what it leaves there is below the C call, where a host's wiping of the stack reaches it.
+#[tactic(auto, unfolding(blocks::specs::Bytes::big_endian))]
+#[inline(never)]
+pub fn key(link: &mut [u8], number: u32, wide: u32, keys: &[u8]) -> Result<(), KeyRefusal>
+    ensures answer_value { key_says result ≡ sender_keying link.old keys.now }
+    ensures link_after { link.new ≡ keyed_sender link.old number wide keys.now }
+{
+    SenderBytes::key(link, number, wide, keys)
+}
+
+// ---- sealing
 
 // The bytes of the tag's shares, and of the tape count behind them.
 const SHARES: usize = 48;
@@ -24,73 +111,6 @@ const SHARES: usize = 48;
 const COUNT: usize = 4;
 
 const SHARES_AND_COUNT: usize = SHARES + COUNT;
-
-// ---- the link
-
-fn load(bytes: &[u8]) -> Sender
-    ensures { result ≡ sender_in bytes.now }
-{
-    if !layout::sound(bytes, SIZE, WIDTH_AT) {
-        return Sender::fresh();
-    }
-    Sender {
-        keyed: layout::keyed(bytes),
-        number: layout::number(bytes),
-        last: layout::last(bytes),
-        width: layout::width(bytes, WIDTH_AT),
-        ke: layout::key_blocks(bytes, 0),
-        km: layout::key_blocks(bytes, 48),
-    }
-}
-
-fn store(x: Sender, bytes: &mut [u8])
-    requires { length bytes.old ≡ sender_size }
-    ensures { bytes.new ≡ sender_bytes x }
-{
-    let ke = x.ke;
-    let km = x.km;
-    let width = x.width;
-    let tail = [layout::width_byte(width)];
-    layout::put_link(x.keyed, x.number, x.last, &ke, &km, &tail, bytes);
-}
-
-// Keys the link, narrow where it is told 0: three shares of KE, then three of KM.
-pub fn key(link: &mut [u8], number: u32, wide: u32, keys: &[u8]) -> u32
-    ensures value { result ≡ number_of (sender_keying link.old keys.now) }
-    ensures link_after { link.new ≡ keyed_sender link.old number wide keys.now }
-{
-    if link.len() != SIZE {
-        return 1;
-    }
-    let keying = Sender::fresh().key(number, wide, keys);
-    let answer = keying.answer;
-    let n = answer.number();
-    if n == 0 {
-        let keyed = keying.link;
-        store(keyed, link);
-    }
-    n
-}
-
-// ---- sealing
-
-// The tape bytes that a sealing read.
-fn tape_count(a: SealAnswer) -> usize
-    ensures { result ≡ get_or (values_of (seal_says a)) 1 0 }
-{
-    match a {
-        SealAnswer::Sealed { len: _, used } => used,
-        SealAnswer::Inputs(_) => 0,
-        SealAnswer::ShortOutput => 0,
-    }
-}
-
-// The room for the record: none where the second slice is too short.
-fn room_in(out: usize, shares: usize) -> usize
-    ensures { result ≡ cond (ltb shares shares_size) 0 out }
-{
-    if shares < SHARES_AND_COUNT { 0 } else { out }
-}
 
 // Writes the tag's three shares and the tape count.
 fn put_shares(tag: [u8; 48], count: usize, shares: &mut [u8])
@@ -101,10 +121,18 @@ fn put_shares(tag: [u8; 48], count: usize, shares: &mut [u8])
     blocks::put_number(shares, SHARES, COUNT, count as u64);
 }
 
-// Seals a message on shares, with the masks of the tape.
-pub fn seal(link: &mut [u8], message: &[u8], tape: &[u8], out: &mut [u8], shares: &mut [u8]) -> u32
-    ensures result_value { let l = link.old in let m = message.now in let t = tape.now in
-        result ≡ number_of (sealed_answer l m t (length out.old) (length shares.old)) }
+// Seals a message on shares, with the masks of the tape. A second slice that is too short is refused as a first one is, behind what
+// the link, the message and the tape are refused for.
+#[tactic(auto, unfolding(blocks::specs::Bytes::big_endian, crate::specs::Calls::sealed_answer, calls::specs::Entry::seal_answer))]
+pub fn seal(
+    link: &mut [u8],
+    message: &[u8],
+    tape: &[u8],
+    out: &mut [u8],
+    shares: &mut [u8],
+) -> Result<(), SealRefusal>
+    ensures answer_value { let l = link.old in let m = message.now in let t = tape.now in
+        said (λ _. []) seal_number result ≡ sealed_answer l m t (length out.old) (length shares.old) }
     ensures link_after { let l = link.old in let m = message.now in let t = tape.now in
         link.new ≡ sealed_link l m t (length out.old) (length shares.old) }
     ensures out_after { let l = link.old in let m = message.now in let t = tape.now in
@@ -112,18 +140,16 @@ pub fn seal(link: &mut [u8], message: &[u8], tape: &[u8], out: &mut [u8], shares
     ensures shares_after { let l = link.old in let m = message.now in let t = tape.now in
         shares.new ≡ shares_output l m t out.old shares.old }
 {
-    let before = load(link);
-    let room = room_in(out.len(), shares.len());
-    let sealing = sealing::seal(before, message, tape, &mut out[..room]);
-    let answer = sealing.answer;
-    let n = answer.number();
-    if n == 0 {
-        let after = sealing.link;
-        store(after, link);
-        let tag = sealing.shares;
-        put_shares(tag, tape_count(answer), shares);
+    let before = SenderBytes::load(link);
+    test_inputs(before, message, tape)?;
+    if shares.len() < SHARES_AND_COUNT {
+        return Err(SealRefusal::ShortOutput);
     }
-    n
+    let sealing = sealing::seal(before, message, tape, out);
+    let sealed = sealing.answer?;
+    SenderBytes::store(sealing.link, link);
+    put_shares(sealing.shares, sealed.used, shares);
+    Ok(())
 }
 
 // ---- the lane report
@@ -137,12 +163,12 @@ pub fn report(
     round: u32,
     lane: u32,
     out: &mut [u8],
-) -> u32
-    ensures result_value { let x = sender_in link.now in
-        result ≡ number_of (report_answer x message.now tape.now call round lane (length out.old)) }
+) -> Result<(), ReportRefusal>
+    ensures answer_value { let x = sender_in link.now in
+        report_says result ≡ report_answer x message.now tape.now call round lane (length out.old) }
     ensures out_after { let x = sender_in link.now in
         out.new ≡ report_output x message.now tape.now call round lane out.old }
 {
-    let answer = reporting::report(load(link), message, tape, call, round, lane, out);
-    answer.number()
+    let sender = SenderBytes::load(link);
+    reporting::report(sender, message, tape, call, round, lane, out)
 }

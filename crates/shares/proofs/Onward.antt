@@ -5,8 +5,9 @@ use Rattle.baksheesh.specs.Baksheesh.{rounds, rotated}
 use Rattle.baksheesh.proofs.Steps.{rotated-zero, rotated-suc}
 use Rattle.words.proofs.Words.{unpacked-block}
 use Rattle.blocks.proofs.ByBits.{rearranged-twice}
-use Rattle.shares.specs.{declared.Triple.Triple, Packed.shares_of, Packed.onward}
-use Rattle.masking.specs.Shares.{i₀, i₁, i₂, Shares, Blocks, add, each, Reader, pair_size, masks_at}
+use Rattle.shares.specs.{declared.Triple.Triple, declared.Tape.Tape, declared.Seen.Seen}
+use Rattle.shares.specs.Packed.{shares_of, onward, Onward, CallDone}
+use Rattle.masking.specs.Shares.{i₀, i₁, i₂, Shares, Blocks, add, each, Reader, at, pair_size, masks_at}
 use Rattle.masking.specs.Stages.{state, call, masked, shown_shares}
 use Rattle.masking.specs.Call.{share_round, encryption, pair_count}
 
@@ -26,20 +27,26 @@ turned_more n k = fun_ext (λ i. rotated-suc n (k i))
 turned-twice : (m n : ℕ) (k : Shares) → each (rotated m) (each (rotated n) k) ≡ each (rotated (n + m)) k
 turned-twice m n k = fun_ext (λ i. rearranged-twice _ _ _ (λ j h. omega arith) (λ j h. omega arith) (k i))
 
--- ---- one round more
+-- ---- no round, and one more
 
-module _ (M : Reader) (o n : ℕ) (s k : Shares) where
-  pub onward-none : onward M o n s k 0 ≡ s
-  unfolding onward
-  onward-none = refl
+pub onward-none : (M : Reader) (o n c : ℕ) (r : Seen) → c ≡ 0 → Onward M o n (shares_of r.state) (shares_of r.key) c r
+unfolding onward
+onward-none M o n c r e =
+    let k = shares_of r.key in
+    let go : Onward M o n (shares_of r.state) k 0 r = record { state = refl; key = turned_none k (packed-blocks r.key) } in
+    rw e go
 
-  pub onward-more : (c r p : ℕ) (t m l l' t' : Shares) → t ≡ onward M o n s k c → l ≡ each (rotated c) k → l' ≡ each (rotated 1) l
-      → r ≡ n + c → t' ≡ share_round r t l' → p ≡ o + pair_size * c → m ≡ add t' (masks_at M p)
-      → (m ≡ onward M o n s k (suc c)) × (l' ≡ each (rotated (suc c)) k)
-  unfolding onward
-  onward-more c r p t m l l' t' et el el' er et' ep em =
-      let turned : l' ≡ each (rotated (suc c)) k = el' ∙ ap (each (rotated 1)) el ∙ turned_more c k in
-      (em ∙ λ i. add ((et' ∙ λ j. share_round (er j) (et j) (turned j)) i) (masks_at M (ep i)), turned)
+pub onward-more : {M : Reader} {o n : ℕ} {s k : Shares} {c : ℕ} {r : Seen} → Onward M o n s k c r → (d m p : ℕ) → d ≡ suc c → m ≡ n + c
+    → p ≡ o + pair_size * c → {r' : Seen} {t : Shares} → shares_of r'.key ≡ each (rotated 1) (shares_of r.key)
+    → t ≡ share_round m (shares_of r.state) (shares_of r'.key) → shares_of r'.state ≡ add t (masks_at M p) → Onward M o n s k d r'
+unfolding onward
+onward-more {M} {o} {n} {s} {k} {c} W d m p ed em ep {r'} ek et es =
+    let turned : shares_of r'.key ≡ each (rotated (suc c)) k = ek ∙ ap (each (rotated 1)) W.key ∙ turned_more c k in
+    let go : Onward M o n s k (suc c) r' = record {
+      state = es ∙ λ i. add ((et ∙ λ j. share_round (em j) (W.state j) (turned j)) i) (masks_at M (ep i));
+      key = turned;
+    } in
+    rw ed go
 
 -- ---- in a call
 
@@ -58,33 +65,54 @@ module _ (key input : Shares) (M : Reader) (o : ℕ) where
       (λ i. add (share_round (n + c) (onward-masked n c i) (turned i)) (masks_at M (at i))) ∙ ap m e
 
 -- a call in two parts: up to the pair numbered n, and the rest
-module _ (k x : Shares) (b : Blocks k) (M : Reader) (o n a₀ a₁ : ℕ) (s s₀ s₁ k₁ k₂ s₂ : Shares)
-    (low : 1 ≤ n) (high : n ≤ pair_count) (e : s ≡ add x k) (e₀ : s₀ ≡ add s (masks_at M o)) (f₀ : a₀ ≡ o + pair_size)
-    (e₁ : s₁ ≡ onward M a₀ 0 s₀ k (n - 1 - 0)) (f₁ : k₁ ≡ each (rotated (n - 1 - 0)) k) (g₁ : a₁ ≡ a₀ + pair_size * (n - 1 - 0))
-    (e₂ : s₂ ≡ onward M a₁ (n - 1) s₁ k₁ (rounds - (n - 1)))
-    (f₂ : k₂ ≡ cond (ltb n pair_count) (each (rotated 1) k₁) k₁) where
+module _ (key input state : Triple) (n : ℕ) (low : 1 ≤ n) (high : n ≤ pair_count) (t t₁ t₂ : Tape) (s : Shares) (shown last : Seen)
+    (added : s ≡ add (shares_of input) (shares_of key))
+    (masked_first : shares_of state ≡ add s (masks_at (at t.bytes.now) t.used))
+    (one : t₁ ≡ record t { used = t.used + pair_size })
+    (to_pair : Onward (at t₁.bytes.now) t₁.used 0 (shares_of state) (shares_of key) (n - 1 - 0) shown)
+    (more : t₂ ≡ record t₁ { used = t₁.used + pair_size * (n - 1 - 0) })
+    (to_end : Onward (at t₂.bytes.now) t₂.used (n - 1) (shares_of shown.state) (shares_of shown.key) (rounds - (n - 1)) last) where
+  abbrev k : Shares
+  k = shares_of key
+
+  abbrev x : Shares
+  x = shares_of input
+
+  abbrev M : Reader
+  M = at t.bytes.now
+
+  abbrev o : ℕ
+  o = t.used
+
   from-none : n - 1 - 0 ≡ n - 1
   from-none = omega arith
 
-  shown-state : s₁ ≡ masked encryption k x M o (n - 1)
+  read : t₂ ≡ record t { used = o + pair_size * suc (n - 1) }
+  read =
+      let e : t₁.used + pair_size * (n - 1 - 0) ≡ o + pair_size * suc (n - 1) = omega (arith, ap (λ (z : Tape). z.used) one) in
+      more ∙ λ i. record { bytes = (one i).bytes; used = e i }
+
+  shown-state : shares_of shown.state ≡ masked encryption k x M o (n - 1)
   unfolding state masked
   shown-state =
-      let at : a₀ ≡ o + pair_size * 1 = omega arith in
       let first : o ≡ o + pair_size * 0 = omega arith in
-      let none : 0 + (n - 1) ≡ n - 1 = omega arith in
-      let start = e₀ ∙ λ i. add (e i) (masks_at M (first i)) in
-      e₁ ∙ (λ i. onward M (at i) 0 (start i) (turned_none k b i) (from-none i))
-      ∙ onward-masked k x M o 0 (n - 1) ∙ ap (masked encryption k x M o) none
+      let start = masked_first ∙ λ i. add (added i) (masks_at M (first i)) in
+      let none : o + pair_size ≡ o + pair_size * 1 = omega arith in
+      let begin = one ∙ λ i. record { bytes = t.bytes; used = none i } in
+      to_pair.state
+      ∙ (λ i. onward (at (begin i).bytes.now) (begin i).used 0 (start i) (turned_none k (packed-blocks key) i) (from-none i))
+      ∙ onward-masked k x M o 0 (n - 1) ∙ ap (masked encryption k x M o) (omega arith)
 
-  left : k₁ ≡ each (rotated (n - 1)) k
-  left = f₁ ∙ ap (λ (j : ℕ). each (rotated j) k) from-none
+  left : shares_of shown.key ≡ each (rotated (n - 1)) k
+  left = to_pair.key ∙ ap (λ (j : ℕ). each (rotated j) k) from-none
 
-  shown-key : k₂ ≡ shown_shares encryption k x M o (n - 1)
+  shown-key : {k₂ : Shares} → k₂ ≡ cond (ltb n pair_count) (each (rotated 1) (shares_of shown.key)) (shares_of shown.key)
+      → k₂ ≡ shown_shares encryption k x M o (n - 1)
   unfolding shown_shares
-  shown-key = f₂ ∙ go (ltb n pair_count) (ltb→lt n pair_count) (λ t. nltb→le n pair_count t)
+  shown-key f₂ = f₂ ∙ go (ltb n pair_count) (ltb→lt n pair_count) (λ t. nltb→le n pair_count t)
     where
       go : (t : Bool) → (T t → n < pair_count) → (T (not t) → pair_count ≤ n)
-          → cond t (each (rotated 1) k₁) k₁ ≡ each (rotated (min (suc (n - 1)) rounds)) k
+          → cond t (each (rotated 1) (shares_of shown.key)) (shares_of shown.key) ≡ each (rotated (min (suc (n - 1)) rounds)) k
       go true h g =
           let d : suc (n - 1) ≡ min (suc (n - 1)) rounds = omega (arith, h tt) in
           ap (each (rotated 1)) left ∙ turned_more (n - 1) k ∙ ap (λ (j : ℕ). each (rotated j) k) d
@@ -92,13 +120,14 @@ module _ (k x : Shares) (b : Blocks k) (M : Reader) (o n a₀ a₁ : ℕ) (s s�
           let d : n - 1 ≡ min (suc (n - 1)) rounds = omega (arith, g tt) in
           left ∙ ap (λ (j : ℕ). each (rotated j) k) d
 
-  reaches_end : s₂ ≡ call encryption k x M o
+  reaches_end : shares_of last.state ≡ call encryption k x M o
   reaches_end =
-      let at : a₁ ≡ o + pair_size * suc (n - 1) = omega arith in
       let end : n - 1 + (rounds - (n - 1)) ≡ rounds = omega arith in
-      e₂ ∙ (λ i. onward M (at i) (n - 1) (shown-state i) (left i) (rounds - (n - 1)))
+      to_end.state
+      ∙ (λ i. onward (at (read i).bytes.now) (read i).used (n - 1) (shown-state i) (left i) (rounds - (n - 1)))
       ∙ onward-masked k x M o (n - 1) (rounds - (n - 1)) ∙ ap (masked encryption k x M o) end
 
-  pub call-parts : (s₂ ≡ call encryption k x M o) × (s₁ ≡ masked encryption k x M o (n - 1))
-      × (k₂ ≡ shown_shares encryption k x M o (n - 1))
-  call-parts = (reaches_end, shown-state, shown-key)
+  pub call-done : {shown_key : Triple}
+      → shares_of shown_key ≡ cond (ltb n pair_count) (each (rotated 1) (shares_of shown.key)) (shares_of shown.key)
+      → CallDone k x M o n (record { out = last.state; seen = record { state = shown.state; key = shown_key } })
+  call-done e = record { out = reaches_end; state = shown-state; key = shown-key e }

@@ -21,6 +21,21 @@ pub struct Triple {
     c: [u32; 4],
 }
 
+impl Triple {
+    // What `f` makes of each share alone.
+    pub fn each<F: Fn([u32; 4]) -> [u32; 4]>(self, f: F) -> Triple
+        requires { F.IsAlwaysCallable f }
+        ensures { F.post f self.a result.a × F.post f self.b result.b × F.post f self.c result.c }
+    {
+        let Triple { a, b, c } = self;
+        Triple {
+            a: f(a),
+            b: f(b),
+            c: f(c),
+        }
+    }
+}
+
 // A block in share 0, zeros in the others.
 pub fn only(b: [u32; 4]) -> Triple
     ensures { shares_of result ≡ only_share (unpacked b) }
@@ -37,9 +52,9 @@ pub fn pack_shares(b: [u8; 48]) -> Triple
     ensures { shares_of result ≡ shares_in b }
 {
     Triple {
-        a: pack(blocks::block_at(&b, 0)),
-        b: pack(blocks::block_at(&b, 16)),
-        c: pack(blocks::block_at(&b, 32)),
+        a: pack(blocks::bytes_at(&b, 0)),
+        b: pack(blocks::bytes_at(&b, 16)),
+        c: pack(blocks::bytes_at(&b, 32)),
     }
 }
 
@@ -47,10 +62,7 @@ pub fn pack_shares(b: [u8; 48]) -> Triple
 pub fn unpack_shares(s: Triple) -> [u8; 48]
     ensures { result ≡ flat (shares_of s) }
 {
-    let a = s.a;
-    let b = s.b;
-    let c = s.c;
-    blocks::three_blocks(unpack(a), unpack(b), unpack(c))
+    blocks::three_blocks(unpack(s.a), unpack(s.b), unpack(s.c))
 }
 
 // A word of ones, or of zeros.
@@ -65,13 +77,8 @@ fn sbox_share(first: bool, a: [u32; 4], b: [u32; 4]) -> [u32; 4]
     ensures { unpacked result ≡ form_share sbox_form first (unpacked a) (unpacked b) }
 {
     let one = ones_if(first);
-    let a0 = a[0];
-    let a1 = a[1];
-    let a2 = a[2];
-    let a3 = a[3];
-    let b0 = b[0];
-    let b1 = b[1];
-    let b2 = b[2];
+    let [a0, a1, a2, a3] = a;
+    let [b0, b1, b2, _] = b;
     let p01 = (a0 & a1) ^ (a0 & b1) ^ (b0 & a1);
     let p02 = (a0 & a2) ^ (a0 & b2) ^ (b0 & a2);
     let p12 = (a1 & a2) ^ (a1 & b2) ^ (b1 & a2);
@@ -100,16 +107,10 @@ fn share_round(s: Triple, k: Triple, n: usize) -> Triple
     requires { n < rounds }
     ensures { shares_of result ≡ share_round n (shares_of s) (shares_of k) }
 {
-    let s0 = s.a;
-    let s1 = s.b;
-    let s2 = s.c;
-    let k0 = k.a;
-    let k1 = k.b;
-    let k2 = k.c;
     Triple {
-        a: lane_round(true, s1, s2, k0, n),
-        b: lane_round(false, s2, s0, k1, n),
-        c: lane_round(false, s0, s1, k2, n),
+        a: lane_round(true, s.b, s.c, k.a, n),
+        b: lane_round(false, s.c, s.a, k.b, n),
+        c: lane_round(false, s.a, s.b, k.c, n),
     }
 }
 
@@ -117,16 +118,10 @@ fn share_round(s: Triple, k: Triple, n: usize) -> Triple
 pub fn add_shares(s: Triple, t: Triple) -> Triple
     ensures { shares_of result ≡ add_shares (shares_of s) (shares_of t) }
 {
-    let s0 = s.a;
-    let s1 = s.b;
-    let s2 = s.c;
-    let t0 = t.a;
-    let t1 = t.b;
-    let t2 = t.c;
     Triple {
-        a: add(s0, t0),
-        b: add(s1, t1),
-        c: add(s2, t2),
+        a: add(s.a, t.a),
+        b: add(s.b, t.b),
+        c: add(s.c, t.c),
     }
 }
 
@@ -134,14 +129,7 @@ pub fn add_shares(s: Triple, t: Triple) -> Triple
 fn rotate_shares(k: Triple) -> Triple
     ensures { shares_of result ≡ each (rotated 1) (shares_of k) }
 {
-    let a = k.a;
-    let b = k.b;
-    let c = k.c;
-    Triple {
-        a: rotate(a),
-        b: rotate(b),
-        c: rotate(c),
-    }
+    k.each(rotate)
 }
 
 // ---- the tape
@@ -154,33 +142,41 @@ pub const PAIRS: usize = ROUNDS + 1;
 
 pub const CALL: usize = PAIR * PAIRS;
 
-// A pair of masks, and the count of tape bytes read with it.
+// A pair of masks.
 #[derive(Clone, Copy)]
-pub struct Drawn {
+pub struct Masks {
     u: [u32; 4],
     v: [u32; 4],
+}
+
+// A tape of masks, and how many of its bytes are read.
+#[derive(Drop)]
+pub struct Tape<'a> {
+    pub bytes: &'a [u8],
     pub used: usize,
 }
 
-// The next pair of masks of the tape.
-pub fn draw(tape: &[u8], used: usize) -> Drawn
-    requires { used + pair_size ≤ length tape.now }
-    ensures masks { spread (unpacked result.u) (unpacked result.v) ≡ masks_at (at tape.now) used }
-    ensures counted { result.used ≡ used + pair_size }
-{
-    Drawn {
-        u: pack(blocks::block_at(tape, used)),
-        v: pack(blocks::block_at(tape, used + 16)),
-        used: used + PAIR,
+impl<'a> Tape<'a> {
+    // The next pair of masks, whose bytes are counted.
+    pub fn draw(&mut self) -> Masks
+        requires { self.old.used + pair_size ≤ length self.old.bytes.now }
+        ensures masks { spread (unpacked result.u) (unpacked result.v) ≡ masks_at (at self.old.bytes.now) self.old.used }
+        ensures drawn { self.new ≡ record self.old { used = self.old.used + pair_size } }
+    {
+        let at = self.used;
+        self.used += PAIR;
+        Masks {
+            u: pack(blocks::bytes_at(self.bytes, at)),
+            v: pack(blocks::bytes_at(self.bytes, at + 16)),
+        }
     }
 }
 
 // The masks u, v and u XOR v of a pair, one into each share.
-pub fn mask(s: Triple, pair: Drawn) -> Triple
+pub fn mask(s: Triple, pair: Masks) -> Triple
     ensures { shares_of result ≡ add_shares (shares_of s) (spread (unpacked pair.u) (unpacked pair.v)) }
 {
-    let u = pair.u;
-    let v = pair.v;
+    let Masks { u, v } = pair;
     let masks = Triple {
         a: u,
         b: v,
@@ -191,76 +187,57 @@ pub fn mask(s: Triple, pair: Drawn) -> Triple
 
 // ---- calls
 
-// Where some rounds have led: the shares, with the masks behind the last round; the key's as it added them; and the count of tape
-// bytes read.
+// What a pair of masks shows: the state's shares just after it, and the key's shares.
 #[derive(Clone, Copy)]
-pub struct Progress {
+pub struct Seen {
     pub state: Triple,
     pub key: Triple,
-    pub used: usize,
 }
 
-// The rounds after the first `from`, up to the round numbered `to`, each with a pair of masks behind it.
-fn run_rounds(s: Triple, k: Triple, tape: &[u8], used: usize, from: usize, to: usize) -> Progress
-    requires { (from ≤ to) × (to ≤ rounds) × (used + pair_size * (to - from) ≤ length tape.now) }
-    ensures { Onward (at tape.now) used from (shares_of s) (shares_of k) (to - from) result }
+// The rounds after the first `from`, up to the round numbered `to`, each with a pair of masks behind it: the state, and the key as the
+// last of them added it.
+fn run_rounds(start: Seen, tape: &mut Tape, from: usize, to: usize) -> Seen
+    requires { (from ≤ to) × (to ≤ rounds) × (tape.old.used + pair_size * (to - from) ≤ length tape.old.bytes.now) }
+    ensures rounds { Onward (at tape.old.bytes.now) tape.old.used from (shares_of start.state) (shares_of start.key) (to - from) result }
+    ensures drawn { tape.new ≡ record tape.old { used = tape.old.used + pair_size * (to - from) } }
 {
-    let mut state = s;
-    let mut key = k;
-    let mut read = used;
-    let mut n = from;
-    while n < to {
-        let turned = rotate_shares(key);
-        let pair = draw(tape, read);
-        let met = mask(share_round(state, turned, n), pair);
-        state = met;
-        key = turned;
-        read = pair.used;
-        n += 1;
+    let Seen { mut state, mut key } = start;
+    for n in from..to {
+        key = rotate_shares(key);
+        let masks = tape.draw();
+        state = mask(share_round(state, key, n), masks);
     }
-    Progress {
-        state,
-        key,
-        used: read,
-    }
+    Seen { state, key }
 }
 
 // The key's shares that pair n shows, of those that the round before it added: the next round's, but for the last pair.
 fn shown_key(k: Triple, n: usize) -> Triple
     ensures { shares_of result ≡ cond (ltb n pair_count) (each (rotated 1) (shares_of k)) (shares_of k) }
 {
-    if n < PAIRS {
-        return rotate_shares(k);
-    }
-    k
+    if n < PAIRS { rotate_shares(k) } else { k }
 }
 
-// A call's output, and what one of its pairs of masks shows: the state's shares just after it, and the key's.
+// A call's output, and what one of its pairs of masks shows.
 #[derive(Clone, Copy)]
 pub struct Called {
     pub out: Triple,
-    pub state: Triple,
-    pub key: Triple,
-    pub used: usize,
+    pub seen: Seen,
 }
 
-// A call of key shares and input shares, with the masks from `used` on; it shows the pair numbered `n`.
-pub fn call(key: Triple, input: Triple, tape: &[u8], used: usize, n: usize) -> Called
-    requires { (1 ≤ n) × (n ≤ pair_count) × (used + call_size ≤ length tape.now) }
-    ensures { CallDone (shares_of key) (shares_of input) (at tape.now) used n result }
+// A call of key shares and input shares, with the next masks of the tape; it shows the pair numbered `n`.
+pub fn call(key: Triple, input: Triple, tape: &mut Tape, n: usize) -> Called
+    requires { (1 ≤ n) × (n ≤ pair_count) × (tape.old.used + call_size ≤ length tape.old.bytes.now) }
+    ensures done { CallDone (shares_of key) (shares_of input) (at tape.old.bytes.now) tape.old.used n result }
+    ensures drawn { tape.new ≡ record tape.old { used = tape.old.used + call_size } }
 {
-    let first = draw(tape, used);
-    let start = mask(add_shares(input, key), first);
-    let done = n - 1;
-    let shown = run_rounds(start, key, tape, first.used, 0, done);
-    let state = shown.state;
-    let turned = shown.key;
-    let after = run_rounds(state, turned, tape, shown.used, done, ROUNDS);
-    let out = after.state;
+    let state = mask(add_shares(input, key), tape.draw());
+    let shown = run_rounds(Seen { state, key }, tape, 0, n - 1);
+    let last = run_rounds(shown, tape, n - 1, ROUNDS);
     Called {
-        out,
-        state,
-        key: shown_key(turned, n),
-        used: after.used,
+        out: last.state,
+        seen: Seen {
+            state: shown.state,
+            key: shown_key(shown.key, n),
+        },
     }
 }

@@ -1,59 +1,39 @@
 // What the programs print, and the bytes that they work on.
 #![tactic(auto)]
 
-use std::io;
+use std::{fmt, io};
 
-fn wide(x: u8) -> u64 {
-    x as u64
+// Bytes as they are printed: in hexadecimal digits, or `-` for none.
+#[derive(Clone, Copy)]
+pub struct Hex<'a>(pub &'a [u8]);
+
+impl fmt::Display for Hex<'_> {
+    fn fmt<W: fmt::Write>(&self, f: &mut fmt::Formatter<W>) -> fmt::Result {
+        if self.0.is_empty() {
+            return f.write_str("-");
+        }
+        for x in self.0 {
+            write!(f, "{x:02x}")?;
+        }
+        Ok(())
+    }
 }
 
 // Fills the slice with bytes that begin at `first` and rise by `step`, modulo 256.
 pub fn fill(out: &mut [u8], first: u8, step: u8) {
-    let mut x = first;
-    let mut i = 0;
-    while i < out.len() {
-        out[i] = x;
-        x = std::num::wrapping_add_u8(x, step);
-        i += 1;
+    let mut next = first;
+    for x in out {
+        *x = next;
+        next = next.wrapping_add(step);
     }
 }
 
-pub fn word(rt: &impl Print, text: &[u8]) -> io::Result<()> {
-    rt.write_all(text)
-}
-
-// A number in decimal digits, and a space.
-pub fn number(rt: &impl Print, n: u64) -> io::Result<()> {
-    rt.print(n)?;
-    word(rt, b" ")
-}
-
-// Bytes in hexadecimal digits, or `-` for none; they end the line.
+// Bytes as they are printed; they end the line.
 pub fn bytes(rt: &impl Print, s: &[u8]) -> io::Result<()> {
-    if s.len() == 0 {
-        word(rt, b"-")?;
-    }
-    let mut i = 0;
-    while i < s.len() {
-        let x = wide(s[i]);
-        print!(rt; "{x:02x}")?;
-        i += 1;
-    }
-    word(rt, b"\n")
+    rt.println(Hex(s))
 }
 
 // The first n of the bytes, or all of them where there are fewer.
 pub fn front(rt: &impl Print, s: &[u8], n: usize) -> io::Result<()> {
-    if n < s.len() {
-        bytes(rt, &s[..n])
-    } else {
-        bytes(rt, s)
-    }
-}
-
-// What was tried, and the number that it gave.
-pub fn tried(rt: &impl Print, what: &[u8], n: u64) -> io::Result<()> {
-    word(rt, what)?;
-    rt.print(n)?;
-    word(rt, b"\n")
+    bytes(rt, &s[..n.min(s.len())])
 }

@@ -1,70 +1,75 @@
 // The vectors of the paper's Table 14 by both engines, both ways.
 #![tactic(auto)]
 
-ghost use Rattle.std.specs.Prelude.{◌<◌};
-
 use engines::Cipher;
 use std::io;
 
-// Key, plaintext and ciphertext of each vector.
-const VECTORS: [u8; 384] = *b"\
-    \x00\x00\x00\x00\x00\x00\x00\x00\x00\x00\x00\x00\x00\x00\x00\x00\
-    \x00\x00\x00\x00\x00\x00\x00\x00\x00\x00\x00\x00\x00\x00\x00\x00\
-    \xc0\x02\xbe\x5e\x64\xc7\x8a\x72\xab\x9a\x34\x39\x51\x83\x52\xaa\
-    \x00\x00\x00\x00\x00\x00\x00\x00\x00\x00\x00\x00\x00\x00\x00\x00\
-    \x00\x00\x00\x00\x00\x00\x00\x00\x00\x00\x00\x00\x00\x00\x00\x07\
-    \x6f\x7d\x77\x46\xea\xf0\xd9\x7a\x15\x40\x79\xf6\xbd\x84\x64\x38\
-    \x00\x00\x00\x00\x00\x00\x00\x00\x00\x00\x00\x00\x00\x00\x00\x00\
-    \x70\x00\x00\x00\x00\x00\x00\x00\x00\x00\x00\x00\x00\x00\x00\x00\
-    \x1b\xa3\x36\x37\x34\xc0\x9a\x29\xf6\x7c\x23\xbb\xb2\xcc\xcc\x05\
-    \x00\x00\x00\x00\x00\x00\x00\x00\x00\x00\x00\x00\x00\x00\x00\x00\
-    \x44\x44\x44\x44\x44\x44\x44\x44\x44\x44\x44\x44\x44\x44\x44\x44\
-    \x7a\xd3\x30\x36\x67\xb2\xaf\x6d\xee\xf4\x34\xdd\x11\x0d\x7f\xb8\
-    \xff\xff\xff\xff\xff\xff\xff\xff\xff\xff\xff\xff\xff\xff\xff\xff\
-    \x11\x11\x11\x11\x11\x11\x11\x11\x11\x11\x11\x11\x11\x11\x11\x11\
-    \x80\x6f\x0c\xf4\x5b\x94\xf0\x37\x02\x06\x97\x5f\xe7\x8a\xc1\x0f\
-    \x76\x54\x32\x10\x03\x20\x32\x03\x20\x32\x03\x20\x32\x03\x20\x32\
-    \x78\x9a\x78\x9a\x78\x9a\x78\x9a\x78\x9a\x78\x9a\x78\x9a\x78\x9a\
-    \xae\x65\x4b\x53\x33\xb8\x76\x58\x4f\x8e\x8d\xd5\x4f\x4e\x49\x0a\
-    \x23\x02\x30\x23\x02\x30\x23\x02\x30\x23\x02\x30\x01\x23\x45\x67\
-    \xb6\xe4\x78\x9a\xb6\xe4\x78\x9a\xb6\xe4\x78\x9a\xb6\xe4\x78\x9a\
-    \x3d\xbb\xdf\x7f\xe2\x54\xcc\x0b\xe3\x96\xa7\x53\x44\x2d\xcc\xad\
-    \x59\x20\xef\xfb\x52\xbc\x61\xe3\x3a\x98\x42\x53\x21\xe7\x69\x15\
-    \xe6\x51\x75\x31\xab\xf6\x3f\x3d\x78\x05\xe1\x26\x94\x3a\x08\x1c\
-    \xfc\x7e\x61\xfe\xe3\xd5\x87\x30\x8c\xa7\xbc\x59\x4e\xbf\x32\x44";
-
-fn line(rt: &impl Print, number: u8, label: &[u8], block: [u8; 16]) -> io::Result<()> {
-    let text = hex_digits::digits(block);
-    rt.write_all(&[number])?;
-    rt.write_all(label)?;
-    rt.write_all(&text)?;
-    rt.write_all(b"\n")
+// A key, a plaintext and its ciphertext, each as the number that its bytes say.
+struct Vector {
+    key: u128,
+    plain: u128,
+    cipher: u128,
 }
 
-fn run(cipher: Cipher, key: [u8; 16], block: [u8; 16]) -> [u8; 16] {
+const VECTORS: [Vector; 8] = [
+    Vector {
+        key: 0x00000000000000000000000000000000,
+        plain: 0x00000000000000000000000000000000,
+        cipher: 0xc002be5e64c78a72ab9a3439518352aa,
+    },
+    Vector {
+        key: 0x00000000000000000000000000000000,
+        plain: 0x00000000000000000000000000000007,
+        cipher: 0x6f7d7746eaf0d97a154079f6bd846438,
+    },
+    Vector {
+        key: 0x00000000000000000000000000000000,
+        plain: 0x70000000000000000000000000000000,
+        cipher: 0x1ba3363734c09a29f67c23bbb2cccc05,
+    },
+    Vector {
+        key: 0x00000000000000000000000000000000,
+        plain: 0x44444444444444444444444444444444,
+        cipher: 0x7ad3303667b2af6deef434dd110d7fb8,
+    },
+    Vector {
+        key: 0xffffffffffffffffffffffffffffffff,
+        plain: 0x11111111111111111111111111111111,
+        cipher: 0x806f0cf45b94f0370206975fe78ac10f,
+    },
+    Vector {
+        key: 0x76543210032032032032032032032032,
+        plain: 0x789a789a789a789a789a789a789a789a,
+        cipher: 0xae654b5333b876584f8e8dd54f4e490a,
+    },
+    Vector {
+        key: 0x23023023023023023023023001234567,
+        plain: 0xb6e4789ab6e4789ab6e4789ab6e4789a,
+        cipher: 0x3dbbdf7fe254cc0be396a753442dccad,
+    },
+    Vector {
+        key: 0x5920effb52bc61e33a98425321e76915,
+        plain: 0xe6517531abf63f3d7805e126943a081c,
+        cipher: 0xfc7e61fee3d587308ca7bc594ebf3244,
+    },
+];
+
+fn run(cipher: Cipher, key: u128, block: u128) -> u128 {
     let mut out = [0u8; 16];
-    engines::call(cipher, &key, &block, &mut out);
-    out
-}
-
-// Runs vector i.
-fn vector(rt: &impl Print, vectors: &[u8; 384], i: usize) -> io::Result<()>
-    requires { i < 8 }
-{
-    let n = b'1' + i as u8;
-    let k = blocks::block_at(vectors, 48 * i);
-    let x = blocks::block_at(vectors, 48 * i + 16);
-    let y = blocks::block_at(vectors, 48 * i + 32);
-    line(rt, n, b" encrypt table ", run(Cipher::EncryptTable, k, x))?;
-    line(rt, n, b" decrypt table ", run(Cipher::DecryptTable, k, y))?;
-    line(rt, n, b" encrypt packed ", run(Cipher::EncryptPacked, k, x))?;
-    line(rt, n, b" decrypt packed ", run(Cipher::DecryptPacked, k, y))
+    engines::call(cipher, &key.to_be_bytes(), &block.to_be_bytes(), &mut out).unwrap();
+    u128::from_be_bytes(out)
 }
 
 fn main(rt: HostRuntime) -> io::Result<()> {
-    let vectors = VECTORS;
-    for i in 0..8 {
-        vector(&rt, &vectors, i)?;
+    for (i, v) in VECTORS.iter().enumerate() {
+        for (name, cipher, block) in [
+            ("encrypt table", Cipher::EncryptTable, v.plain),
+            ("decrypt table", Cipher::DecryptTable, v.cipher),
+            ("encrypt packed", Cipher::EncryptPacked, v.plain),
+            ("decrypt packed", Cipher::DecryptPacked, v.cipher),
+        ] {
+            println!(rt; "{} {name} {:032x}", i + 1, run(cipher, v.key, block))?;
+        }
     }
     Ok(())
 }

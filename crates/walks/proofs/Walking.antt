@@ -1,47 +1,33 @@
 -- The calls of a run one after the other: each leads behind itself, and gives the run's output. Assumes nothing.
-use Rattle.prelude.proofs.{◌≡◌, sym, ap, ◌∙◌, subst, ℕ, ◌+◌, ◌-◌, ℕ_discrete, arith, eqb, eq-eqb, ne_eqb}
-use Rattle.masking.specs.{Shares.Shares, Shares.Reader}
+use Rattle.prelude.proofs.{◌≡◌, sym, ap, ◌∙◌, subst, ℕ, ◌+◌, ◌-◌, ℕ_discrete, arith}
+use Rattle.masking.specs.{Shares.Shares, Shares.Reader, Shares.at}
 use Rattle.masking.specs.Stages.{Stages, masks_size, call, masked, shown_shares}
-use Rattle.shares.specs.{declared.Triple.Triple, Packed.shares_of}
+use Rattle.shares.specs.{declared.Tape.Tape, Packed.shares_of}
 use Rattle.runs.specs.Run.{Run, key_shares, input_of, output_of}
-use Rattle.walks.specs.Walk.{looked, Shown, Stepped, Walked}
-use Rattle.walks.specs.{declared.Watch.Watch, declared.Seen.Seen, declared.Walk.Walk}
-
--- ---- what one call shows
-
-module _ (i j : ℕ) (s t : Triple) (old r : Seen) (e : r ≡ looked (eqb i j) s t old) where
-  pub look_hit : (D : Stages) (k x : Shares) (M : Reader) (o n : ℕ) → shares_of s ≡ masked D k x M o (n - 1)
-      → shares_of t ≡ shown_shares D k x M o (n - 1) → i ≡ j → Shown D k x M o n r
-  look_hit D k x M o n es et h =
-      let seen : r ≡ record { state = s; key = t } = e ∙ rw (eq-eqb i j h) in
-      record {
-        state = ap (λ (z : Seen). shares_of z.state) seen ∙ es;
-        key = ap (λ (z : Seen). shares_of z.key) seen ∙ et;
-      }
-
-  pub look-miss : (i ≡ j → ⊥) → r ≡ old
-  look-miss h = e ∙ rw (ne_eqb i j h)
-
--- ---- from call to call
+use Rattle.walks.specs.Walk.{Stepped, Walked}
+use Rattle.walks.specs.{declared.watch.Watch.Watch, declared.Walk.Walk}
 
 module _ (D : Stages) (R : Run) (M : Reader) (a : Watch) where
-  pub walked_none : {w : Walk} → w.calls ≡ 0 → w.used ≡ R.begins 1 → Walked D R M a 0 w
-  walked_none e d = record { calls = e; used = d; saw = λ l h. absurd (omega arith) }
-
   pub walked_at : {k l : ℕ} {w : Walk} → k ≡ l → Walked D R M a k w → Walked D R M a l w
   walked_at {w = w} e W = subst (λ (j : ℕ). Walked D R M a j w) e W
 
   -- call n comes next: it leads behind itself, and gives its output
   module _ (k n : ℕ) (number : n ≡ k + 1) (next : R.begins n + masks_size D ≡ R.begins (n + 1)) {key input : Shares}
       (ek : key ≡ key_shares D R M n) (ei : input ≡ input_of D R M n) {w r : Walk}
-      (W : Walked D R M a k w) (S : Stepped D key input M a w r) where
-    there : w.used ≡ R.begins n
+      (W : Walked D R M a k w) (stepped : Stepped D key input (at w.tape.bytes.now) w.watch w r) where
+    S : Stepped D key input M a w r
+    S = subst (λ (b : Watch). Stepped D key input M b w r) W.watch
+        (subst (λ (N : Reader). Stepped D key input N w.watch w r) W.reads stepped)
+
+    there : w.tape.used ≡ R.begins n
     there = W.used ∙ ap R.begins (sym number)
 
     walked_more : Walked D R M a n r
     walked_more = record {
       calls = omega (arith, S.calls, W.calls);
-      used = S.used ∙ ap (λ (u : ℕ). u + masks_size D) there ∙ next;
+      used = ap (λ (t : Tape). t.used) S.tape ∙ ap (λ (u : ℕ). u + masks_size D) there ∙ next;
+      reads = ap (λ (t : Tape). at t.bytes.now) S.tape ∙ W.reads;
+      watch = S.watch ∙ W.watch;
       saw = λ l h. elim (ℕ_discrete n a.call) [
         | yes d ↦
             let s = S.hit (ap (λ (z : ℕ). z + 1) W.calls ∙ sym number ∙ d) in

@@ -1,10 +1,8 @@
 -- What the test of a lane's numbers says. Assumes nothing.
-use Rattle.std.specs.Prelude.{[], ℕ}
-use Rattle.answers.specs.Answer.{Answer, done, refused}
+use Rattle.std.specs.Prelude.{⊤, [], ℕ, Result}
+use Rattle.answers.specs.Answer.{Answer, said}
 use Rattle.walks.specs.declared.LaneRefusal.{LaneRefusal}
 use Rattle.walks.specs.declared.LaneRefusal.TheVariants.{BadCall, BadRound, BadLane, ShortOutput}
-use Rattle.walks.specs.declared.LaneTest.{LaneTest}
-use Rattle.walks.specs.declared.LaneTest.TheVariants.{Passed, Refused}
 
 -- the number of a refusal
 abbrev pub lane_number : LaneRefusal → ℕ
@@ -14,6 +12,5 @@ lane_number BadLane = 34
 lane_number ShortOutput = 4
 
 -- what the test says: the lane is shown, or refused under that number
-abbrev pub lane_says : LaneTest → Answer
-lane_says Passed = done []
-lane_says (Refused w) = refused (lane_number w)
+abbrev pub lane_says : Result ⊤ LaneRefusal → Answer
+lane_says = said (λ _. []) lane_number

@@ -1,9 +1,9 @@
 -- A window admits the numbers that no cause refuses, none that it did not admit before it moved, and an accepted one never again.
 -- Assumes nothing.
-use Rattle.prelude.proofs.{◌≡◌, refl, sym, ap, ap₂, ◌∙◌, inl, inr, Bool, true, false, cond, ◌&&◌, ◌||◌, ℕ, ◌+◌, ◌-◌, ◌^◌, ◌≤◌, ◌<◌}
-use Rattle.prelude.proofs.{dec_le, dec_lt, lt_of_lt_of_le, pow_mono, arith, eqb, leb, ltb, or_lt, eqb-false, leb-false, eq-eqb}
-use Rattle.prelude.proofs.{ne_eqb, le-leb, lt-leb, lt-ltb, le-ltb, ltb-true, ltb-false}
-use Rattle.bits.proofs.{Laws.bit_high, Test.neither}
+use Rattle.prelude.proofs.{◌≡◌, refl, sym, ap, ap₂, ◌∙◌, inl, inr, Bool, false, cond, ◌&&◌, ◌||◌, ℕ, ◌+◌, ◌-◌, ◌^◌, ◌≤◌, ◌<◌}
+use Rattle.prelude.proofs.{dec_lt, arith, eqb, leb, ltb, or_lt, eqb-false, leb-false, ne_eqb, le-leb, lt-leb, lt-ltb, le-ltb}
+use Rattle.prelude.proofs.{ltb-true, ltb-false}
+use Rattle.bits.proofs.Test.{neither}
 use Rattle.answers.proofs.First.{either}
 use Rattle.window.specs.Window.{span, known, New, Admitted, below, repeated, shifted, moved_up, marked, after}
 use Rattle.window.specs.declared.Window.{Window}
@@ -36,32 +36,6 @@ module _ (w : Window) (s : ℕ) where
       new : New w s → repeated w s ≡ false
       new (inl l) = ap (λ (t : Bool). t && known w s) (lt-leb s w.highest l)
       new (inr i) = ap₂ ◌&&◌ (le-leb s w.highest i.0.0) i.1
-
--- ---- the tests, as they are made
-
-module _ (w : Window) (s : ℕ) where
-  pub is_zero : s ≡ 0 → true ≡ below w s
-  is_zero e = sym (ap (λ (b : Bool). b || leb (s + span) w.highest) (eq-eqb s 0 e))
-
-  pub left-or-not : (s ≡ 0 → ⊥) → s ≤ w.highest → leb span (w.highest - s) ≡ below w s
-  left-or-not z l =
-      elim (dec_le (s + span) w.highest) [
-        | yes h ↦ le-leb span (w.highest - s) (omega arith) ∙ sym (le-leb (s + span) w.highest h)
-        | no h ↦ lt-leb span (w.highest - s) (omega arith) ∙ sym (lt-leb (s + span) w.highest (omega arith))
-      ]
-      ∙ sym (ap (λ (b : Bool). b || leb (s + span) w.highest) (ne_eqb s 0 z))
-
-  pub not_left : (s ≡ 0 → ⊥) → w.highest < s → false ≡ below w s
-  not_left z l = sym (ap₂ ◌||◌ (ne_eqb s 0 z) (lt-leb (s + span) w.highest (omega arith)))
-
-  pub right_new : w.highest < s → false ≡ repeated w s
-  right_new l = sym (ap (λ (b : Bool). b && known w s) (lt-leb s w.highest l))
-
-  pub left-new : s ≤ w.highest → span ≤ w.highest - s → w.accepted < 2 ^ span → false ≡ repeated w s
-  left-new l h fits = sym (ap₂ ◌&&◌ (le-leb s w.highest l) (bit_high w.accepted (w.highest - s) (lt_of_lt_of_le fits (pow_mono h))))
-
-  pub bit-read : s ≤ w.highest → known w s ≡ repeated w s
-  bit-read l = sym (ap (λ (b : Bool). b && known w s) (le-leb s w.highest l))
 
 -- ---- moved
 

@@ -1,10 +1,14 @@
 -- What shifting a window's word and setting a bit of it do to its bits. Assumes nothing.
 use Rattle.prelude.proofs.{◌≡◌, refl, sym, ap, ◌∙◌, Bool, false, ◌||◌, ℕ, zero, suc, ◌+◌, ◌-◌, ◌*◌, ◌%◌, ◌^◌, ◌≤◌, ◌<◌, dec_lt, arith, eqb}
-use Rattle.prelude.proofs.{eqb-suc-zero, bit_or, pow-add, mul_assoc, add-zero, digits_mod, pow_pos, mod-lt, ne_eqb}
+use Rattle.prelude.proofs.{eqb-suc-zero, bit_or, pow-add, mul_assoc, add-zero, digits_mod, pow_pos, pow_mono, lt_of_lt_of_le, mod-lt, ne_eqb}
 use Rattle.bits.specs.Bit.{bit}
-use Rattle.bits.proofs.Laws.{bit-low, bit-shl, bit-shl-low, bit-or, bit-zero, bit-suc}
+use Rattle.bits.proofs.Laws.{bit_high, bit-low, bit-shl, bit-shl-low, bit-or, bit-zero, bit-suc}
 use Rattle.bits.proofs.Test.{same_test, neither}
 use Rattle.window.specs.Window.{span, shifted}
+
+-- from bit 64 up it has none
+pub bit_past : (x k : ℕ) → x < 2 ^ span → span ≤ k → bit x k ≡ false
+bit_past x k fits h = bit_high x k (lt_of_lt_of_le fits (pow_mono h))
 
 -- ---- shifted by d places: bit k goes to place d + k, and below d none is set; by 64 places or more the word is cleared
 
@@ -16,9 +20,9 @@ pub bit-vacated : (x d k : ℕ) → k < d → k < span → bit (shifted x d) k �
 unfolding shifted
 bit-vacated x d k l h = bit-low (x * 2 ^ d) span k h ∙ bit-shl-low x d k l
 
-pub shifted-out : (x d : ℕ) → span ≤ d → 0 ≡ shifted x d
+pub shifted_out : (x d : ℕ) → span ≤ d → 0 ≡ shifted x d
 unfolding shifted
-shifted-out x d h =
+shifted_out x d h =
     let e : d ≡ d - span + span = omega arith in
     let p : x * 2 ^ (d - span + span) ≡ x * 2 ^ (d - span) * 2 ^ span + 0 =
     ap (λ (n : ℕ). x * n) (pow-add 2 (d - span) span) ∙ sym (mul_assoc x (2 ^ (d - span)) (2 ^ span)) ∙ sym (add-zero _) in

@@ -2,19 +2,29 @@
 #![tactic(auto)]
 
 ghost use Rattle.std.specs.Prelude.{◌≡◌};
+ghost use Rattle.bits.specs.Bit.{bit};
 ghost use Rattle.window.specs.Window.{empty, below, repeated, shifted, after};
 
 // How many numbers it covers.
 const SPAN: u64 = 64;
 
 // The highest number accepted, and a word: its bit k says whether the number k below that one was.
-#[derive(Clone, Copy)]
+#[derive(Clone, Copy, Debug, PartialEq, Eq)]
 pub struct Window {
     pub highest: u64,
     pub accepted: u64,
 }
 
+// Whether a word has that bit; from 64 up it has none.
+#[tactic(auto, using(crate::proofs::Word::bit_past), unfolding(bits::specs::Bit::bit))]
+fn bit(word: u64, place: u64) -> bool
+    ensures { result ≡ bit word place }
+{
+    place < SPAN && (word >> place) % 2 == 1
+}
+
 // The word shifted up; by 64 places or more it is cleared.
+#[tactic(auto, using(crate::proofs::Word::shifted_out), unfolding(crate::specs::Window::shifted))]
 fn shifted(word: u64, places: u64) -> u64
     ensures { result ≡ shifted word places }
 {
@@ -36,45 +46,31 @@ impl Window {
     pub fn below(self, number: u64) -> bool
         ensures { result ≡ below self number }
     {
-        if number == 0 {
-            return true;
-        }
-        let highest = self.highest;
-        if highest < number {
-            return false;
-        }
-        SPAN <= highest - number
+        let places = self.highest.checked_sub(number);
+        number == 0 || places.is_some_and(|places| SPAN <= places)
     }
 
     // Whether a number is in the window and was accepted.
     pub fn repeated(self, number: u64) -> bool
         ensures { result ≡ repeated self number }
     {
-        let highest = self.highest;
-        if highest < number {
-            return false;
-        }
-        let places = highest - number;
-        if SPAN <= places {
-            return false;
-        }
-        (self.accepted >> places) % 2 == 1
+        let places = self.highest.checked_sub(number);
+        places.is_some_and(|places| bit(self.accepted, places))
     }
 
     // The window with a number accepted.
     pub fn after(self, number: u64) -> Window
         ensures { result ≡ after self number }
     {
-        let highest = self.highest;
-        if highest < number {
-            return Window {
+        match self.highest.checked_sub(number) {
+            Some(places) => Window {
+                accepted: self.accepted | shifted(1, places),
+                ..self
+            },
+            None => Window {
                 highest: number,
-                accepted: shifted(self.accepted, number - highest) | 1,
-            };
-        }
-        Window {
-            highest,
-            accepted: self.accepted | shifted(1, highest - number),
+                accepted: shifted(self.accepted, number - self.highest) | 1,
+            },
         }
     }
 }

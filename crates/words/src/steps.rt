@@ -6,32 +6,29 @@ ghost use Rattle.baksheesh.specs.Baksheesh.{rounds, perm_bits, constant, rotated
 ghost use Rattle.words.specs.Words.{unpacked};
 
 use baksheesh::ROUNDS;
-use bits::swapmove_wide;
+use bits::swapmove;
 
 // Two words in one: in each half, bit 4a + b goes to bit a of byte 3 - b.
 fn perm_words(x: u64) -> u64
     ensures { (i : ℕ) → i < 64 → bit result i ≡ bit x (32 * (i / 32) + 4 * (i % 8) + (3 - i % 32 / 8)) }
 {
-    let x1 = swapmove_wide(x, 0x0a0a_0a0a_0a0a_0a0a, 3);
-    let x2 = swapmove_wide(x1, 0x00cc_00cc_00cc_00cc, 6);
-    let x3 = swapmove_wide(x2, 0x0000_f0f0_0000_f0f0, 12);
-    swapmove_wide(x3, 0x0000_00ff_0000_00ff, 24)
+    let x1 = swapmove(x, 0x0a0a_0a0a_0a0a_0a0a, 3);
+    let x2 = swapmove(x1, 0x00cc_00cc_00cc_00cc, 6);
+    let x3 = swapmove(x2, 0x0000_f0f0_0000_f0f0, 12);
+    swapmove(x3, 0x0000_00ff_0000_00ff, 24)
 }
 
 pub fn perm_bits(s: [u32; 4]) -> [u32; 4]
     ensures { unpacked result ≡ perm_bits (unpacked s) }
 {
-    let x = perm_words(s[0] as u64 ^ (s[1] as u64) << 32);
-    let y = perm_words(s[2] as u64 ^ (s[3] as u64) << 32);
-    let a = (x & 0xffff_ffff) as u32;
-    let b = (x >> 32) as u32;
-    let c = (y & 0xffff_ffff) as u32;
-    let d = (y >> 32) as u32;
+    let [a, b, c, d] = s;
+    let x = perm_words(a as u64 ^ (b as u64) << 32);
+    let y = perm_words(c as u64 ^ (d as u64) << 32);
     [
-        (a << 8) ^ (a >> 24),
-        (b << 16) ^ (b >> 16),
-        (c << 24) ^ (c >> 8),
-        d,
+        ((x & 0xffff_ffff) as u32).rotate_left(8),
+        ((x >> 32) as u32).rotate_left(16),
+        ((y & 0xffff_ffff) as u32).rotate_left(24),
+        (y >> 32) as u32,
     ]
 }
 
@@ -97,6 +94,6 @@ pub fn add_constants(s: [u32; 4], n: usize) -> [u32; 4]
 pub fn rotate(k: [u32; 4]) -> [u32; 4]
     ensures { unpacked result ≡ rotated 1 (unpacked k) }
 {
-    let a = k[0];
-    [k[1], k[2], k[3], (a >> 1) ^ (a << 31)]
+    let [a, b, c, d] = k;
+    [b, c, d, a.rotate_right(1)]
 }

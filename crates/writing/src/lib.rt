@@ -1,111 +1,91 @@
 // Writing the body of a mark.
 #![tactic(auto)]
 
-ghost use Rattle.std.specs.Prelude.{◌≡◌, true, ◌+◌, ◌≤◌, length};
+ghost use Rattle.std.specs.Prelude.{◌≡◌, true, ◌+◌, ◌<◌, ◌≤◌, length};
 ghost use Rattle.blocks.specs.Bytes.{put};
-ghost use Rattle.answers.specs.Answer.{number_of};
-ghost use Rattle.body.specs.Mark.{offset_fits, fits, offset_word, written, offset_with, mark_with};
+ghost use Rattle.body.specs.Words.{fields};
+ghost use Rattle.body.specs.Mark.{fits, word_bytes, written, mark_with};
 ghost use Rattle.body.specs.Entry.{write_says, write_answer, write_output};
 
-use body::{FIELDS, FIELDS_U64, Mark, Offset, WriteAnswer};
+use body::{Mark, WriteRefusal};
+
+// How many numbers a field holds.
+const FIELDS: u64 = body::FIELDS as u64;
 
 // How many numbers the two fields of the seconds hold.
-const SECONDS: u64 = FIELDS_U64 * FIELDS_U64;
-
-fn offset_fits(offset: Offset) -> bool
-    ensures { result ≡ offset_fits offset }
-{
-    match offset {
-        Offset::Missing => true,
-        Offset::Minutes(z) => body::offset_in_range(z),
-    }
-}
+const SECONDS: u64 = FIELDS * FIELDS;
 
 // Whether each value is in its range.
 fn in_range(mark: Mark) -> bool
     ensures { result ≡ fits mark }
 {
-    if SECONDS <= mark.seconds {
-        return false;
-    }
-    if FIELDS <= mark.fraction {
-        return false;
-    }
-    let offset = mark.offset;
-    offset_fits(offset)
+    mark.seconds < SECONDS
+        && mark.fraction < body::FIELDS
+        && mark.offset.is_none_or(body::offset_in_range)
 }
 
-// How many bytes the body of a mark with that offset has.
-fn size_with(offset: Offset) -> usize
-    ensures { result ≡ 12 + length (offset_word offset) }
+// How many bytes the body of a mark has.
+#[tactic(auto, using(body::proofs::Writing::written_size))]
+fn size(mark: Mark) -> usize
+    ensures { result ≡ length (written mark) }
 {
-    match offset {
-        Offset::Missing => 12,
-        Offset::Minutes(_) => 16,
-    }
+    if mark.offset.is_some() { 16 } else { 12 }
 }
 
-// Writes the word of an offset, if there is one.
-fn put_offset(offset: Offset, out: &mut [u8])
-    requires offset_value { offset_fits offset ≡ true }
-    requires offset_in_bounds { 12 + length (offset_word offset) ≤ length out.old }
-    ensures { out.new ≡ put 12 (offset_word offset) out.old }
+// Writes a word of a kind from `at`.
+fn put_word(kind: u64, field: u64, out: &mut [u8], at: usize)
+    requires kind_fits { kind < 16 }
+    requires field_fits { field < fields }
+    requires in_bounds { at + 4 ≤ length out.old }
+    ensures { out.new ≡ put at (word_bytes kind field) out.old }
 {
-    match offset {
-        Offset::Missing => {}
-        Offset::Minutes(z) => {
-            blocks::put_number(out, 12, 4, 4 * FIELDS_U64 + body::residue_of(z, FIELDS_U64))
-        }
-    }
+    blocks::put_number(out, at, 4, kind * FIELDS + field);
 }
 
 // Writes the body of a mark from the output's start.
+#[tactic(auto, using(body::proofs::Writing::written_size))]
 fn put_body(mark: Mark, out: &mut [u8])
-    requires offset_value { offset_fits mark.offset ≡ true }
-    requires offset_in_bounds { 12 + length (offset_word mark.offset) ≤ length out.old }
+    requires in_range { fits mark ≡ true }
+    requires in_bounds { length (written mark) ≤ length out.old }
     ensures { out.new ≡ put 0 (written mark) out.old }
 {
-    let offset = mark.offset;
-    blocks::put_number(out, 0, 4, FIELDS_U64 + mark.seconds / FIELDS_U64);
-    blocks::put_number(out, 4, 4, 2 * FIELDS_U64 + mark.seconds % FIELDS_U64);
-    blocks::put_number(out, 8, 4, 3 * FIELDS_U64 + mark.fraction as u64);
-    put_offset(offset, out);
+    put_word(1, mark.seconds / FIELDS, out, 0);
+    put_word(2, mark.seconds % FIELDS, out, 4);
+    put_word(3, u64::from(mark.fraction), out, 8);
+    if let Some(minutes) = mark.offset {
+        put_word(4, u64::from(body::field_of(minutes)), out, 12);
+    }
 }
 
-// Writes the body of a mark.
-pub fn write(mark: Mark, out: &mut [u8]) -> WriteAnswer
+// Writes the body of a mark, and returns its length.
+#[tactic(auto, unfolding(body::specs::Entry::write_answer))]
+pub fn write(mark: Mark, out: &mut [u8]) -> Result<usize, WriteRefusal>
     ensures result_value { write_says result ≡ write_answer mark (length out.old) }
     ensures out_after { out.new ≡ write_output mark out.old }
 {
-    let offset = mark.offset;
-    let right = in_range(mark);
-    let len = size_with(offset);
-    if !right {
-        return WriteAnswer::BadValue;
+    if !in_range(mark) {
+        return Err(WriteRefusal::BadValue);
     }
+    let len = size(mark);
     if out.len() < len {
-        return WriteAnswer::ShortOutput;
+        return Err(WriteRefusal::ShortOutput);
     }
     put_body(mark, out);
-    WriteAnswer::Written { len }
+    Ok(len)
 }
 
-// The offset that is given, if one is.
-fn offset_with(given: u32, z: i32) -> Offset
-    ensures { result ≡ offset_with given z }
-{
-    if given == 0 {
-        return Offset::Missing;
-    }
-    Offset::Minutes(z)
-}
-
-// Writes the body of a mark of these values: 0, or the refusal's number.
-pub fn write_values(seconds: u64, fraction: u32, given: u32, z: i32, out: &mut [u8]) -> u32
-    ensures value { result ≡ number_of (write_answer (mark_with seconds fraction given z) (length out.old)) }
+// Writes the body of a mark of these values; `given` is 0 where it has no offset.
+pub fn write_values(
+    seconds: u64,
+    fraction: u32,
+    given: u32,
+    z: i32,
+    out: &mut [u8],
+) -> Result<usize, WriteRefusal>
+    ensures value { write_says result ≡ write_answer (mark_with seconds fraction given z) (length out.old) }
     ensures out_after { out.new ≡ write_output (mark_with seconds fraction given z) out.old }
 {
-    let offset = offset_with(given, z);
+    let offset = (given != 0).then_some(z);
     write(
         Mark {
             seconds,
@@ -114,5 +94,4 @@ pub fn write_values(seconds: u64, fraction: u32, given: u32, z: i32, out: &mut [
         },
         out,
     )
-    .number()
 }

@@ -1,18 +1,12 @@
--- `answer` meets its contract. Assumes nothing.
-use Rattle.prelude.proofs.{arith, rules}
-use Rattle.block.proofs.Printed.{says-ciphertext, says-length}
+-- `answer` meets its contract: the ciphertext's digits, and a line feed behind them. Assumes nothing.
+use Rattle.prelude.proofs.{ap, ap₂, ◌∙◌, arith, length-drop}
+use Rattle.baksheesh.specs.Baksheesh.{encrypt}
+use Rattle.hex_digits.specs.Hex.{hex_of}
+use Rattle.block.proofs.Printed.{for_block}
 use Rattle.block.proofs.answer.Goals as goal
-
-pub returns-then-n-eq32 : goal.returns-then-n-eq32
-returns-then-n-eq32 c =
-    let s =
-    says-ciphertext c.args.buffer (search rules) c.args.n _ _ _ _ _ _ _ c.if-n-eq32.true
-    c.block_at-key.ensures c.block_at-block.ensures c.encrypt.ensures
-    c.digits-text.ensures (search rules) (omega arith)
-    c.put_bytes.ensures c.put_bytes-then-n-eq32.ensures in
-    record { value = s.0; out_after = s.1 }
 
 pub returns : goal.returns
 returns c =
-    let s = says-length c.args.buffer (search rules) c.args.n _ _ c.if-n-eq32.false c.put_bytes-2.ensures in
-    record { value = s.0; out_after = s.1 }
+    let cipher = c.encrypt.ensures ∙ ap₂ encrypt c.bytes_at-key.ensures c.bytes_at-block.ensures in
+    let text = c.copy_from_slice.ensures.after ∙ c.digits-text.ensures ∙ ap hex_of cipher in
+    for_block c.args.input.now _ _ c.if-input-ne32.false text (grind arith) (length-drop 32 c.args.out.now ∙ omega arith)

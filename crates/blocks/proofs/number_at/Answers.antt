@@ -1,38 +1,43 @@
 -- `number_at` meets its contract. The loop has read the first i bytes. Assumes nothing.
-use Rattle.prelude.proofs.{◌≡◌, ap, ◌∙◌, ℕ, ◌+◌, ◌*◌, ◌^◌, ◌<◌, arith, get_or, rules}
+use Rattle.prelude.proofs.{◌≡◌, ap, ◌∙◌, ℕ, ◌<◌, arith, rules}
 use Rattle.blocks.specs.Bytes.{value, part}
-use Rattle.blocks.proofs.Numbers.{value_none, value-more, more-fits}
+use Rattle.blocks.proofs.Numbers.{value_none, value-more, more-fits, part-span, part-item}
 use Rattle.blocks.proofs.number_at.Goals as goal
-use Rattle.blocks.proofs.number_at.Goals.{After-shared_slice_known-1}
 
--- where a byte was read: the number with it fits
-small : (c : After-shared_slice_known-1) → let l = c.loop-i in
-    let a = c.args in
-    l.number * 256 + get_or a.s.now (a.at + l.i) 0 < 2 ^ 64
-small c =
-    let l = c.loop-i in
-    let a = c.args in
-    more-fits a.at l.i a.s.now (λ j. (c.type_inv.s j).fits) (omega arith) (omega arith) l.invariant.1
-
-pub overflow_cast-byte : goal.overflow_cast-byte
-overflow_cast-byte c = let a = c.args in omega (arith, c.type_inv.s (a.at + c.loop-i.i))
+pub loop-byte-init : goal.loop-byte-init
+loop-byte-init c = value_none
 
 pub overflow_mul-number : goal.overflow_mul-number
-overflow_mul-number c = record { fits = omega (arith, small c) }
+overflow_mul-number c =
+    let l = c.loop-byte in
+    let a = c.args in
+    let w = part-span a.at a.w a.s.now (search rules) in
+    let t : l.byte-index < a.w = omega (arith, w, c.loop-byte-test.true) in
+    let f = more-fits a.at l.byte-index a.s.now (λ j. (c.type_inv.s j).fits) (omega arith) (omega arith) l.invariant in
+    record { fits = omega (arith, f) }
 
 pub overflow_add-number : goal.overflow_add-number
-overflow_add-number c = record { fits = small c }
-
-pub loop-i-preserved : goal.loop-i-preserved
-loop-i-preserved c =
-    let l = c.loop-i in
+overflow_add-number c =
+    let l = c.loop-byte in
     let a = c.args in
-    (search rules, value-more a.at l.i a.s.now (omega arith) l.invariant.1)
+    let w = part-span a.at a.w a.s.now (search rules) in
+    let t : l.byte-index < a.w = omega (arith, w, c.loop-byte-test.true) in
+    record {
+      fits = rw (c.from.ensures ∙ part-item a.at a.w l.byte-index a.s.now t)
+          (more-fits a.at l.byte-index a.s.now (λ j. (c.type_inv.s j).fits) (omega arith) (omega arith) l.invariant);
+    }
+
+pub loop-byte-preserved : goal.loop-byte-preserved
+loop-byte-preserved c =
+    let l = c.loop-byte in
+    let a = c.args in
+    let w = part-span a.at a.w a.s.now (search rules) in
+    let t : l.byte-index < a.w = omega (arith, w, c.loop-byte-test.true) in
+    rw (c.from.ensures ∙ part-item a.at a.w l.byte-index a.s.now t) (value-more a.at l.byte-index a.s.now (omega arith) l.invariant)
 
 pub returns : goal.returns
 returns c =
-    let e : c.loop-i.i ≡ c.args.w = omega arith in
-    c.loop-i.invariant.1 ∙ ap (λ (i : ℕ). value (part c.args.at i c.args.s.now)) e
-
-pub loop-i-init : goal.loop-i-init
-loop-i-init c = (search rules, value_none)
+    let a = c.args in
+    let w = part-span a.at a.w a.s.now (search rules) in
+    let e : c.loop-byte.byte-index ≡ a.w = omega (arith, w, c.loop-byte.auto, c.loop-byte-test.false) in
+    c.loop-byte.invariant ∙ ap (λ (i : ℕ). value (part a.at i a.s.now)) e

@@ -5,6 +5,3 @@ use Rattle.blocks.proofs.put_number.Given as goal
 
 abbrev pub invariant-loop-i : goal.invariant-loop-i
 invariant-loop-i l = (l.i ≤ l.w) × (l.rest ≡ l.x / 256 ^ (l.w - l.i)) × (l.out ≡ put (l.at + l.i) (big_endian (l.w - l.i) l.x) l.initial.out)
-
-abbrev pub decreases-loop-i : goal.decreases-loop-i
-decreases-loop-i l = l.i

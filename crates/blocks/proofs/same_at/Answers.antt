@@ -1,27 +1,18 @@
--- `same_at` meets its contract. The loop has compared the first i bytes. Assumes nothing.
-use Rattle.prelude.proofs.{◌≡◌, refl, ap, ◌∙◌, ℕ, arith, length, rules}
-use Rattle.blocks.proofs.Same.{compared, compare_same, compare-other}
+-- `same_at` meets its contract. Assumes nothing.
+use Rattle.prelude.proofs.{◌≡◌, sym, ap, ◌∙◌, ◌&&◌, Bool, eqb, get_or, length, ◌+◌, rules, arith}
+use Rattle.blocks.proofs.Same.{compared, compared-more}
 use Rattle.blocks.proofs.same_at.Goals as goal
-use Rattle.blocks.proofs.same_at.Goals.{then-block-i, else-block-i}
 
 pub loop-i-preserved : goal.loop-i-preserved
 loop-i-preserved c =
     let l = c.loop-i in
     let a = c.args in
-    let z : length a.block ≡ 16 = search rules in (
-      search rules,
-      elim c.if-block-i.branch [
-        | then-block-i w ↦ w.same-is ∙ compare-other a.block a.s.now a.at l.i (omega arith) (omega arith) w.if-block-i.true refl
-        | else-block-i w ↦ w.same-is ∙ compare_same a.block a.s.now a.at l.i (omega arith) (omega arith) l.invariant.1 w.if-block-i.false refl
-      ],
-    )
+    let z : length a.block ≡ 16 = search rules in
+    ap (λ (same : Bool). same && eqb (get_or a.block l.i 0) (get_or a.s.now (a.at + l.i) 0)) l.invariant
+    ∙ sym (compared-more a.block a.s.now a.at l.i (omega arith) (omega arith))
 
 pub returns : goal.returns
 returns c =
-    let l = c.loop-i in
     let a = c.args in
-    let e : l.i ≡ a.n = omega arith in
-    l.invariant.1 ∙ ap (λ (i : ℕ). compared a.block a.s.now a.at i) e
-
-pub loop-i-init : goal.loop-i-init
-loop-i-init c = (search rules, refl)
+    let e : c.loop-i.i ≡ a.n = omega arith in
+    c.loop-i.invariant ∙ ap (compared a.block a.s.now a.at) e

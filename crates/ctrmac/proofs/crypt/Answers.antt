@@ -1,12 +1,12 @@
 -- `crypt` meets its contract. The loop has written the first j blocks. Assumes nothing.
-use Rattle.prelude.proofs.{◌≡◌, ◌∙◌, List, ℕ, ◌+◌, ◌*◌, arith, length}
-use Rattle.blocks.specs.Bytes.{◌⊕◌, put, piece}
+use Rattle.prelude.proofs.{◌≡◌, ap, List, ℕ, arith, length}
+use Rattle.blocks.specs.Bytes.{block_count}
 use Rattle.baksheesh.specs.Baksheesh.{encrypt}
 use Rattle.baksheesh.proofs.Inverse.{encrypt-block}
 use Rattle.words.specs.Words.{unpacked}
 use Rattle.words.proofs.Words.{unpacked-block}
 use Rattle.modes.proofs.Pieces.{piece-length}
-use Rattle.modes.proofs.Stream.{written, written_none, written-more, written_all}
+use Rattle.modes.proofs.Stream.{written_none, written-more, written_all}
 use Rattle.links.specs.Record.{counter_block}
 use Rattle.links.proofs.Record.{counter-block}
 use Rattle.ctrmac.proofs.crypt.Goals as goal
@@ -19,20 +19,25 @@ pub loop-j-init : goal.loop-j-init
 loop-j-init c = written_none _ _ _ _ _
 
 pub put_xor-requires : goal.put_xor-requires
-put_xor-requires c = (omega arith, omega (arith, piece-length c.loop-j.j c.args.text.now))
+put_xor-requires c =
+    let count : c.div_ceil-j-end.result ≡ block_count (length c.text.inside.bytes.now) = omega (arith, c.div_ceil-j-end.ensures) in
+    let same = ap length c.text.view_is in
+    (omega arith, omega (arith, piece-length c.loop-j.j c.text.inside.bytes.now))
 
 pub loop-j-preserved : goal.loop-j-preserved
 loop-j-preserved c =
     let a = c.args in
     let l = c.loop-j in
-    c.put_xor.ensures
-    ∙ (λ i. put (a.at + 16 * l.j) (piece l.j a.text.now ⊕ c.key_block-block.ensures i) (l.invariant i))
-    ∙ written-more _ _ _ _ _ (λ j h. sized _ _ _ j) (omega arith) l.j (omega arith)
+    let count : c.div_ceil-j-end.result ≡ block_count (length c.text.inside.bytes.now) = omega (arith, c.div_ceil-j-end.ensures) in
+    let same = ap length c.text.view_is in
+    let more = written-more (encrypt (unpacked c.pack-key.result)) (counter_block a.nonce.number a.nonce.sequence) c.text.inside.bytes.now a.at
+    a.out.now (λ j h. sized c.pack-key.result a.nonce.number a.nonce.sequence j) (omega arith) l.j (omega arith) in
+    cc
 
 pub returns : goal.returns
 returns c =
     let a = c.args in
-    let l = c.loop-j in
-    l.invariant
-    ∙ (λ i. written (encrypt (c.pack-key.ensures i)) (counter_block a.number a.sequence) a.text.now a.at a.out.now l.j)
-    ∙ written_all _ _ _ _ _ _ (omega arith)
+    let count : c.loop-j.j ≡ block_count (length c.text.inside.bytes.now) = omega (arith, c.div_ceil-j-end.ensures) in
+    let all = written_all (encrypt (unpacked c.pack-key.result)) (counter_block a.nonce.number a.nonce.sequence) c.text.inside.bytes.now a.at
+    a.out.now c.loop-j.j count in
+    cc

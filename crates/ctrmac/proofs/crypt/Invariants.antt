@@ -7,4 +7,4 @@ use Rattle.links.specs.Record.{counter_block}
 use Rattle.ctrmac.proofs.crypt.Given as goal
 
 abbrev pub invariant-loop-j : goal.invariant-loop-j
-invariant-loop-j l = l.out ≡ written (encrypt (unpacked l.key)) (counter_block l.number l.sequence) l.text l.at l.initial.out l.j
+invariant-loop-j l = l.out ≡ written (encrypt (unpacked l.key)) (counter_block l.nonce.number l.nonce.sequence) l.bytes l.at l.initial.out l.j

@@ -13,7 +13,7 @@ returns c =
     c.pack_shares.ensures
     ∙ ap shares_in c.three_blocks.ensures
     ∙ three_back _ _ _ (search rules) (search rules) (search rules)
-    ∙ shares-same (c.double.ensures ∙ ap doubled c.block_at.ensures)
-    (c.double-2.ensures ∙ ap doubled c.block_at-2.ensures)
-    (c.double-3.ensures ∙ ap doubled c.block_at-3.ensures)
+    ∙ shares-same (c.double.ensures ∙ ap doubled c.bytes_at.ensures)
+    (c.double-2.ensures ∙ ap doubled c.bytes_at-2.ensures)
+    (c.double-3.ensures ∙ ap doubled c.bytes_at-3.ensures)
     ∙ ap (each doubled) (ap shares_in c.unpack_shares-b.ensures ∙ shares-flat (shares_of s) (packed-blocks s))

@@ -8,7 +8,7 @@ use Rattle.links.proofs.put_head.Goals as goal
 pub returns : goal.returns
 returns c =
     let a = c.args in
-    let n = big_endian-length number_size a.number in
+    let n = big_endian-length number_size a.nonce.number in
     c.put_number-2.ensures ∙ ap (put number_size _) c.put_number.ensures
-    ∙ put-put 0 (big_endian number_size a.number) (big_endian a.form.sequence a.sequence) a.out.now number_size (omega arith)
+    ∙ put-put 0 (big_endian number_size a.nonce.number) (big_endian a.form.sequence a.nonce.sequence) a.out.now number_size (omega arith)
     (omega arith)

@@ -17,7 +17,7 @@ returns c =
     let i = a.i in
     let s = a.seen.state in
     let bytes = c.unpack_shares-states.ensures in
-    let next = share s bytes ((i + 1) % 3) (omega arith) c.block_at.ensures ∙ ap (shares_of s) (index-next i (omega arith)) in
-    let after = share s bytes ((i + 2) % 3) (omega arith) c.block_at-2.ensures ∙ ap (shares_of s) (index-after i (omega arith)) in
-    let key = share a.seen.key c.unpack_shares-keys.ensures i (omega arith) c.block_at-3.ensures in
+    let next = share s bytes ((i + 1) % 3) (omega arith) c.bytes_at.ensures ∙ ap (shares_of s) (index-next i (omega arith)) in
+    let after = share s bytes ((i + 2) % 3) (omega arith) c.bytes_at-2.ensures ∙ ap (shares_of s) (index-after i (omega arith)) in
+    let key = share a.seen.key c.unpack_shares-keys.ensures i (omega arith) c.bytes_at-3.ensures in
     c.three_blocks.ensures ∙ λ j. next j ++ (after j ++ key j)

@@ -1,5 +1,5 @@
 -- `scatter` meets its contract: one test of where each bit comes from. Assumes nothing.
-use Rattle.prelude.proofs.{◌∙◌, [], ◌∷◌, ◌+◌, arith}
+use Rattle.prelude.proofs.{sym, ap, ◌∙◌, [], ◌∷◌, ℕ, ◌+◌, ◌%◌, arith, div-one}
 use Rattle.bits.proofs.XorOfBits.{alone, swapped, moved}
 use Rattle.packing.specs.Bytes.{reversed, scattered}
 use Rattle.packing.proofs.Bytes.{byte_at}
@@ -8,10 +8,12 @@ use Rattle.packing.proofs.scatter.Goals as goal
 pub returns : goal.returns
 unfolding scattered
 returns c =
-    let flips = moved (swapped _ _ (alone tt c.ranges.x.fits) c.swapmove-y.ensures) (λ _. 0) (reversed 3) tt in
-    λ i.
-    (c.byte.ensures ∙ byte_at _ 24 _ (λ j h. flips (24 + j) (omega arith))) i
-    ∷ (c.byte-2.ensures ∙ byte_at _ 16 _ (λ j h. flips (16 + j) (omega arith))) i
-    ∷ (c.byte-3.ensures ∙ byte_at _ 8 _ (λ j h. flips (8 + j) (omega arith))) i
-    ∷ (c.byte-4.ensures ∙ byte_at _ 0 _ (λ j h. flips (0 + j) (omega arith))) i
+    let y : ℕ = c.swapmove.result in
+    let flips = moved (swapped _ _ (alone tt c.ranges.x.fits) c.swapmove.ensures) (λ _. 0) (reversed 3) tt in
+    c.to_be_bytes.ensures
+    ∙ λ i.
+    byte_at y 24 _ (λ j h. flips (24 + j) (omega arith)) i
+    ∷ byte_at y 16 _ (λ j h. flips (16 + j) (omega arith)) i
+    ∷ byte_at y 8 _ (λ j h. flips (8 + j) (omega arith)) i
+    ∷ (sym (ap (λ (z : ℕ). z % 256) (div-one y)) ∙ byte_at y 0 _ (λ j h. flips (0 + j) (omega arith))) i
     ∷ []

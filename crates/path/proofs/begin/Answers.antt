@@ -1,16 +1,19 @@
 -- `begin` meets its contract: the masks of KE, then those of KM. Assumes nothing.
-use Rattle.prelude.proofs.{refl, ap, ◌∙◌, ℕ, arith}
-use Rattle.masking.specs.Shares.{add, shares_in, at, masks_at}
+use Rattle.prelude.proofs.{refl, ap, ◌∙◌, ◌+◌}
+use Rattle.masking.specs.Shares.{add, shares_in, at, pair_size, masks_at}
+use Rattle.shares.specs.declared.Tape.{Tape}
 use Rattle.path.proofs.begin.Goals as goal
 
 pub returns : goal.returns
 returns c =
-    let a = c.args in
-    let f = c.mask_key-first.ensures in
-    let s = c.mask_key-second.ensures in
+    let first = c.mask_key-e.ensures in
+    let second = c.mask_key-m.ensures in
+    let read = ap (λ (t : Tape). record { bytes = t.bytes; used = t.used + pair_size }) first.drawn in
     record {
-      e = f.keyed;
-      m = s.keyed ∙ ap (λ (p : ℕ). add (shares_in a.km) (masks_at (at a.tape.now) p)) f.counted;
+      e = first.keyed;
+      m = second.keyed ∙ ap (λ (t : Tape). add (shares_in c.args.km) (masks_at (at t.bytes.now) t.used)) first.drawn;
       calls = refl;
-      used = omega arith;
+      bytes = ap (λ (t : Tape). t.bytes.now) (second.drawn ∙ read);
+      used = ap (λ (t : Tape). t.used) (second.drawn ∙ read);
+      watch = refl;
     }

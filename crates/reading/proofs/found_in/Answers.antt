@@ -1,14 +1,13 @@
--- `found_in` meets its contract: before turn i the reader holds what the first i words say. Assumes nothing.
+-- `found_in` meets its contract: before a turn the reader holds what the words before it say. Assumes nothing.
 use Rattle.prelude.proofs.{arith}
-use Rattle.reading.proofs.Turns.{first-turn, next-turn, all-turns}
+use Rattle.std.proofs.lemmas.Grind.{common_steps}
+use Rattle.reading.proofs.Chunks.{all_taken, bad_among}
 use Rattle.reading.proofs.found_in.Goals as goal
 
-pub loop-i-init : goal.loop-i-init
-loop-i-init c = first-turn _
-
-pub loop-i-preserved : goal.loop-i-preserved
-loop-i-preserved c =
-    next-turn _ _ _ _ _ _ _ c.loop-i.invariant (omega arith) c.word_at-word.ensures c.is_bad-bad.ensures c.first_of.ensures
-
 pub returns : goal.returns
-returns c = all-turns _ _ _ _ c.loop-i.invariant (omega arith)
+returns c = all_taken _ _ c.as_chunks.ensures.front _ _ c.loop-word.invariant (omega arith)
+
+pub returns-in_err-take : goal.returns-in_err-take
+returns-in_err-take c =
+    let bad = bad_among _ _ c.as_chunks.ensures.front c.loop-word.word-index (c.in_err-take.ensures _ c.loop-word.invariant) (omega arith) c.from_be_bytes.ensures in
+    grind (arith, common_steps)

@@ -5,4 +5,4 @@ use Rattle.shares.proofs.pack_shares.Goals as goal
 
 pub returns : goal.returns
 returns c =
-    shares-same (c.pack.ensures ∙ c.block_at.ensures) (c.pack-2.ensures ∙ c.block_at-2.ensures) (c.pack-3.ensures ∙ c.block_at-3.ensures)
+    shares-same (c.pack.ensures ∙ c.bytes_at.ensures) (c.pack-2.ensures ∙ c.bytes_at-2.ensures) (c.pack-3.ensures ∙ c.bytes_at-3.ensures)

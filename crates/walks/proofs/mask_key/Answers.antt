@@ -4,4 +4,4 @@ use Rattle.masking.specs.Shares.{add}
 use Rattle.walks.proofs.mask_key.Goals as goal
 
 pub returns-clause-keyed : goal.returns-clause-keyed
-returns-clause-keyed c = c.mask.ensures ∙ ap₂ add c.pack_shares.ensures c.draw-pair.ensures.masks
+returns-clause-keyed c = c.mask.ensures ∙ ap₂ add c.pack_shares.ensures c.draw.ensures.masks

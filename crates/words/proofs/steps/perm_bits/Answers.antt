@@ -1,7 +1,7 @@
 -- `perm_bits` meets its contract: a test for each word of where its bits come from. Assumes nothing.
-use Rattle.prelude.proofs.{List, ℕ, arith, mask_lt, shr_lt, get_or, rules}
+use Rattle.prelude.proofs.{refl, List, ℕ, arith, mask_lt, shr_lt, get_or, rules}
 use Rattle.bits.proofs.XorOfBits.{Made, own, down, xored, masked, shl, shr, wider, narrower, through}
-use Rattle.words.proofs.Moves.{inputs, rearranges}
+use Rattle.words.proofs.{Moves.inputs, Moves.rearranges, Turned.turned_up}
 use Rattle.words.proofs.steps.perm_bits.Goals as goal
 
 pub returns : goal.returns
@@ -17,4 +17,5 @@ returns c =
     let b = narrower (shr x 32) 32 (omega arith) (shr_lt 32 32 p.type_inv) in
     let e = narrower (masked y 0xffff_ffff) 32 (omega arith) (mask_lt q.result 32) in
     let d = narrower (shr y 32) 32 (omega arith) (shr_lt 32 32 q.type_inv) in
-    rearranges _ (xored (shl a 8) (shr a 24)) (xored (shl b 16) (shr b 16)) (xored (shl e 24) (shr e 8)) d tt tt tt tt tt
+    rearranges _ (turned_up a 8 24 refl c.rotate_left.ensures) (turned_up b 16 16 refl c.rotate_left-2.ensures)
+    (turned_up e 24 8 refl c.rotate_left-3.ensures) d tt tt tt tt tt

@@ -4,6 +4,6 @@ use Rattle.words.proofs.steps.perm_words.Goals as goal
 
 pub returns : goal.returns
 returns c =
-    let x₁ = swapped _ _ (alone tt c.ranges.x.fits) c.swapmove_wide-x1.ensures in
-    let x₃ = swapped _ _ (swapped _ _ x₁ c.swapmove_wide-x2.ensures) c.swapmove_wide-x3.ensures in
-    moved (swapped _ _ x₃ c.swapmove_wide.ensures) (λ _. 0) _ tt
+    let x₁ = swapped _ _ (alone tt c.ranges.x.fits) c.swapmove-x1.ensures in
+    let x₃ = swapped _ _ (swapped _ _ x₁ c.swapmove-x2.ensures) c.swapmove-x3.ensures in
+    moved (swapped _ _ x₃ c.swapmove.ensures) (λ _. 0) _ tt

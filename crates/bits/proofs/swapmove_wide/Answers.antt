@@ -1,8 +1,0 @@
--- `swapmove_wide` meets its contract, which is its code. Assumes nothing.
-use Rattle.std.proofs.Common.{refl}
-use Rattle.bits.specs.Swap.{swapmove}
-use Rattle.bits.proofs.swapmove_wide.Goals as goal
-
-pub returns : goal.returns
-unfolding swapmove
-returns c = refl
