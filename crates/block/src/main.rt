@@ -1,7 +1,7 @@
 // Reads a key and a block of 16 bytes each, and prints the ciphertext in hexadecimal; for any other length, `length`.
 #![tactic(auto)]
 
-ghost use Rattle.std.specs.Prelude.{◌≡◌};
+ghost use Rattle.std.specs.Prelude.{◌≡◌, ◌≤◌, length, IfOk};
 ghost use Rattle.block.specs.Printed.{printed};
 
 use std::io;
@@ -24,7 +24,9 @@ fn answer<'a>(input: &[u8], out: &'a mut [u8; 33]) -> &'a [u8]
 }
 
 // What is read until the buffer is full or the input ends.
-fn read_full<'a>(input: &mut impl Read, buffer: &'a mut [u8; 33]) -> io::Result<&'a [u8]> {
+fn read_full<'a>(input: &mut impl Read, buffer: &'a mut [u8; 33]) -> io::Result<&'a [u8]>
+    ensures { IfOk result (λ s. length s.now ≤ 33) }
+{
     let mut n = 0;
     for _ in 0..u64::MAX {
         if n == 33 {

@@ -18,7 +18,7 @@ const NUMBER_AT: usize = 1;
 
 const LAST_AT: usize = NUMBER_AT + links::NUMBER;
 
-const KEYS_AT: usize = LAST_AT + LAST;
+pub const KEYS_AT: usize = LAST_AT + LAST;
 
 // The bytes of the last number used, of a receiver the highest accepted.
 const LAST: usize = links::SEQUENCE_MOST;
@@ -70,7 +70,8 @@ impl<const K: usize> Fields<K> {
         }
     }
 
-    // Writes the bytes of such a link.
+    // Writes the bytes of such a link. It goes into its callers, so that a link is not copied on its way.
+    #[inline(always)]
     fn write(&self, bytes: &mut [u8], w: usize)
         requires { (w ≤ 8) × (length bytes.old ≡ size K w) }
         ensures { bytes.new ≡ bytes_of w self.now }
@@ -149,7 +150,8 @@ pub trait Stored<const K: usize> {
         Self::holding(&Fields::read(bytes, Self::WORD))
     }
 
-    // Writes the bytes that say a link.
+    // Writes the bytes that say a link; it goes into its callers as `write` does.
+    #[inline(always)]
     final fn store(link: Self::Link, bytes: &mut [u8])
         requires { length bytes.old ≡ SIZE }
         ensures { bytes.new ≡ bytes_of WORD (held link) }
@@ -166,6 +168,10 @@ pub trait Stored<const K: usize> {
             (bytes_of WORD (held (holding (keyed_fields K number (told wide) keys.now)))) bytes.old }
     {
         if bytes.len() != Self::SIZE {
+            return Err(KeyRefusal::BadKeys);
+        }
+        // Told here too, so that what is left goes one way and the keys are copied once.
+        if keys.len() != 2 * K {
             return Err(KeyRefusal::BadKeys);
         }
         let link = Self::keyed(number, wide, keys)?;

@@ -5,6 +5,8 @@ ghost use Rattle.std.specs.Prelude.{◌≡◌, get_or};
 ghost use Rattle.blocks.specs.Bytes.{tab};
 ghost use Rattle.baksheesh.specs.Baksheesh.{sub_cells, inv_sub_cells};
 
+use std::array::from_fn;
+
 // The S-box on two neighbouring cells, and its inverse: a row for each high cell.
 const SBOX: [u8; 256] = *b"\
     \x33\x30\x36\x3d\x3b\x35\x38\x3e\x3c\x3f\x39\x32\x34\x3a\x37\x31\
@@ -46,7 +48,7 @@ const INV_SBOX: [u8; 256] = *b"\
 fn look_up(t: &[u8; 256], s: [u8; 16]) -> [u8; 16]
     ensures { result ≡ tab 16 (λ k. get_or t.now (get_or s k 0) 0) }
 {
-    s.map(|b| t[b as usize])
+    from_fn(|i| t[s[i] as usize])
 }
 
 pub fn sub_cells(s: [u8; 16]) -> [u8; 16]

@@ -35,6 +35,7 @@ pub fn tape_need(n: usize) -> usize
 // ---- the keys
 
 // The shares of KE and KM, masked, and a walk that begins behind their masks.
+#[derive(Clone, Copy)]
 pub struct Begun<'a> {
     pub e: Triple,
     pub m: Triple,

@@ -23,7 +23,7 @@ pub struct Triple {
 
 impl Triple {
     // What `f` makes of each share alone.
-    pub fn each<F: Fn([u32; 4]) -> [u32; 4]>(self, f: F) -> Triple
+    fn each<F: Fn([u32; 4]) -> [u32; 4]>(self, f: F) -> Triple
         requires { F.IsAlwaysCallable f }
         ensures { F.post f self.a result.a × F.post f self.b result.b × F.post f self.c result.c }
     {
@@ -150,7 +150,7 @@ pub struct Masks {
 }
 
 // A tape of masks, and how many of its bytes are read.
-#[derive(Drop)]
+#[derive(Clone, Copy)]
 pub struct Tape<'a> {
     pub bytes: &'a [u8],
     pub used: usize,

@@ -17,7 +17,7 @@ pub use watch::Watch;
 
 // Where the calls have led: the last call's output, how many calls are done, the tape as far as they read it, what is watched, and
 // what the watched pair showed once it is passed.
-#[derive(Drop)]
+#[derive(Clone, Copy)]
 pub struct Walk<'a> {
     pub out: Triple,
     pub calls: usize,
